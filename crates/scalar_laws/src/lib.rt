@@ -1,0 +1,2 @@
+//! The numbers that everything above computes with, by their laws.
+#![tactic(auto)]
