@@ -1,1 +1,13 @@
 pub mod Semiring
+pub mod Forms
+pub mod Number
+pub mod Integers
+pub mod NumberLaws
+pub mod NumberSums
+pub mod Words
+pub mod Stored
+pub mod Weighed
+pub mod WeighedLaws
+pub mod Remainders
+pub mod Residue
+pub mod ResidueLaws
