@@ -1,0 +1,4 @@
+pub mod FileLookups
+pub mod LetterCounts
+pub mod LetterLookups
+pub mod Names

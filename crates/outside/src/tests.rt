@@ -1,0 +1,137 @@
+//! Each public call once on its happy path, and the faults that were asked for.
+ghost use Rattle.std.specs.Prelude.{◌≡◌, None};
+
+use crate::{
+    Failed, Files, MailRoom, MemFiles, MemSink, Name, RealFiles, RealSink, Sink, Wire, WireErr,
+};
+use std::fs;
+use std::test::Fail;
+
+/// A read by the trait.
+fn read<F: Files>(files: &mut F, name: &str, at: u64, buf: &mut [u8]) -> Result<usize, Failed> {
+    files.read_at(name, at, buf)
+}
+
+/// A write by the trait.
+fn write<S: Sink>(sink: &mut S, bytes: &[u8]) -> Result<usize, Failed> {
+    sink.write(bytes)
+}
+
+#[test]
+fn files_are_read_in_pieces(rt: HostRuntime) -> Result<(), Fail> {
+    let mut files = MemFiles::new(rt.alloc());
+    files.put("a", b"old")?;
+    files.put("b", b"other")?;
+    files.put("a", b"abcde")?;
+    let mut buf = [0u8; 3];
+    assert_eq!(rt; read(&mut files, "a", 0, &mut buf), Ok(3));
+    assert_eq!(rt; &buf, b"abc");
+    assert_eq!(rt; read(&mut files, "a", 3, &mut buf), Ok(2));
+    assert_eq!(rt; &buf, b"dec");
+    assert_eq!(rt; read(&mut files, "a", 5, &mut buf), Ok(0));
+    assert_eq!(rt; read(&mut files, "a", u64::MAX, &mut buf), Ok(0));
+    assert_eq!(rt; read(&mut files, "b", 2, &mut buf), Ok(3));
+    assert_eq!(rt; &buf, b"her");
+    Ok(())
+}
+
+#[test]
+fn reads_fail_where_stated(rt: HostRuntime) -> Result<(), Fail> {
+    let mut files = MemFiles::new(rt.alloc());
+    files.put("a", b"abc")?;
+    files.fail_at(&[1, 3])?;
+    let mut buf = [0u8; 3];
+    assert_eq!(rt; read(&mut files, "a", 0, &mut buf), Ok(3));
+    assert_eq!(rt; read(&mut files, "a", 0, &mut buf), Err(Failed));
+    assert_eq!(rt; read(&mut files, "a", 1, &mut buf), Ok(2));
+    assert_eq!(rt; read(&mut files, "a", 0, &mut buf), Err(Failed));
+    assert_eq!(rt; read(&mut files, "absent", 0, &mut buf), Err(Failed));
+    assert_eq!(rt; read(&mut files, "a", 0, &mut buf), Ok(3));
+    Ok(())
+}
+
+#[test]
+fn a_sink_takes_what_has_room(rt: HostRuntime) -> Result<(), Fail> {
+    let mut sink = MemSink::new(rt.alloc(), 4)?;
+    sink.fail_at(&[1])?;
+    assert_eq!(rt; write(&mut sink, b"abc"), Ok(3));
+    assert_eq!(rt; write(&mut sink, b"de"), Err(Failed));
+    assert_eq!(rt; write(&mut sink, b"de"), Ok(1));
+    assert_eq!(rt; write(&mut sink, b"e"), Err(Failed));
+    assert_eq!(rt; write(&mut sink, b""), Ok(0));
+    assert_eq!(rt; sink.bytes(), b"abcd".as_slice());
+    Ok(())
+}
+
+/// Posts a letter, takes it, and takes it again.
+fn pass<W: Wire>(wire: &mut W, name: Name, bytes: &[u8], into: &mut Vec<u8>) -> Result<(), WireErr>
+    requires { W.pending wire.old name ≡ None }
+{
+    wire.post(name, bytes)?;
+    wire.take(name, into)?;
+    wire.take(name, into)
+}
+
+/// A name of some letter.
+fn name_of(phase: u32) -> Name {
+    Name {
+        phase,
+        from: 1,
+        to: 0,
+    }
+}
+
+#[test]
+fn letters_are_given_as_posted(rt: HostRuntime) -> Result<(), Fail> {
+    let mut room = MailRoom::new(rt.alloc());
+    let mut into = Vec::new(rt.alloc());
+    assert_eq!(rt; room.pending_count(), 0);
+    pass(&mut room, name_of(0), b"letter", &mut into)?;
+    assert_eq!(rt; into.as_slice(), b"letter".as_slice());
+    assert_eq!(rt; room.pending_count(), 0);
+    Ok(())
+}
+
+#[test]
+fn posts_and_takes_fail_where_stated(rt: HostRuntime) -> Result<(), Fail> {
+    let name = name_of(2);
+    let mut room = MailRoom::new(rt.alloc());
+    let mut into = vec![in rt.alloc(); 9]?;
+    room.fail_at(&[0, 2])?;
+    assert_eq!(rt; room.post(name, b"one"), Err(WireErr::Failed));
+    room.post(name, b"two")?;
+    assert_eq!(rt; room.take(name, &mut into), Err(WireErr::Failed));
+    assert!(rt; into.is_empty());
+    assert_eq!(rt; room.pending_count(), 1);
+    room.take(name, &mut into)?;
+    assert_eq!(rt; into.as_slice(), b"two".as_slice());
+    assert_eq!(rt; room.pending_count(), 0);
+    Ok(())
+}
+
+#[test]
+fn files_of_the_system_are_read(rt: HostRuntime) -> Result<(), Fail> {
+    fs::write(&rt, "outside-test.txt", "abcdefgh")?;
+    let mut files = RealFiles::new(&rt);
+    let mut buf = [0u8; 3];
+    assert_eq!(rt; read(&mut files, "outside-test.txt", 6, &mut buf), Ok(2));
+    assert_eq!(rt; &buf[..2], b"gh".as_slice());
+    assert_eq!(rt; read(&mut files, "outside-test.txt", 2, &mut buf), Ok(3));
+    assert_eq!(rt; &buf, b"cde");
+    assert_eq!(rt; read(&mut files, "outside-test.txt", 8, &mut buf), Ok(0));
+    assert_eq!(rt; read(&mut files, "absent.txt", 0, &mut buf), Err(Failed));
+    fs::remove_file(&rt, "outside-test.txt")?;
+    Ok(())
+}
+
+#[test]
+fn a_sink_over_a_writer_writes(rt: HostRuntime) -> Result<(), Fail> {
+    let mut sink = RealSink::new(Vec::new(rt.alloc()));
+    assert_eq!(rt; write(&mut sink, b"abc"), Ok(3));
+    assert_eq!(rt; write(&mut sink, b""), Ok(0));
+    let mut room = [0u8; 2];
+    let mut full = RealSink::new(room.as_mut_slice());
+    assert_eq!(rt; write(&mut full, b"abc"), Ok(2));
+    assert_eq!(rt; write(&mut full, b"c"), Err(Failed));
+    Ok(())
+}
