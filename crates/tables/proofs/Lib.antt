@@ -1,0 +1,14 @@
+pub mod Sums
+pub mod Permutations
+pub mod Tables
+pub mod Orders
+pub mod Cells
+pub mod Counting
+pub mod Listed
+pub mod Within
+pub mod Blocks
+pub mod Places
+pub mod Ranks
+pub mod Filters
+pub mod Edits
+pub mod Examples

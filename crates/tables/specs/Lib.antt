@@ -1,0 +1,4 @@
+pub mod Sums
+pub mod Indices
+pub mod Tables
+pub mod Laws
