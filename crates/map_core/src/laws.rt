@@ -1,0 +1,53 @@
+//! Laws over the definitions. Each function here does nothing: its contract holds of every layout that it speaks of.
+ghost use Rattle.std.specs.Prelude.{◌≡◌, ◌<◌, ◌≤◌, ◌↔◌, ℕ, true, false, length, IsSome, None, Some};
+ghost use Rattle.std.specs.List.{concat, range_with_len};
+ghost use Rattle.map_core.specs.Layouts.{stands, local_index, global_index, rank_list, owner, Layout, IsLayout, IsOneToOne, IsTotal};
+ghost use Rattle.map_core.specs.Uniform.{uniform_count, uniform_layout};
+
+use crate::{Gid, LocalMap};
+
+/// The two directions of a rank's map are inverse: a global index has a local index exactly where that local index has
+/// the global index.
+pub fn index_law(map: &LocalMap)
+    ensures inverse { (g l : ℕ) → (local_index map.now g ≡ Some l) ↔ (global_index map.now l ≡ Some g) }
+{
+    let _ = map.len();
+}
+
+/// The owner of an index in any layout: a rank whose list has it, in a one-to-one layout the only one, and none
+/// exactly where it stands in no list. In a total layout each index below the size has an owner.
+pub fn owner_law()
+    ensures has { (m : Layout) (g p : ℕ) → owner m g ≡ Some p → stands g (rank_list m p) ≡ true }
+    ensures below { (m : Layout) (g p : ℕ) → owner m g ≡ Some p → p < length m.lists }
+    ensures only { (m : Layout) (g p : ℕ) → IsOneToOne m → stands g (rank_list m p) ≡ true → owner m g ≡ Some p }
+    ensures none { (m : Layout) (g : ℕ) → (owner m g ≡ None) ↔ (stands g (concat m.lists) ≡ false) }
+    ensures total { (m : Layout) (g : ℕ) → IsTotal m → g < m.size → IsSome (owner m g) }
+{}
+
+/// The contiguous uniform layout of `size` indices over `ranks` ranks is one-to-one and total. Each rank has as many
+/// indices as `uniform_count` says, and the lists of the ranks, one after another, are all indices in order
+/// (`Tpetra::Map`, uniform contiguous).
+pub fn uniform_law(ranks: u32, size: Gid)
+    requires some_rank { 1 ≤ ranks }
+    ensures is_layout { IsLayout (uniform_layout ranks size) }
+    ensures one_to_one { IsOneToOne (uniform_layout ranks size) }
+    ensures total { IsTotal (uniform_layout ranks size) }
+    ensures ranks { length (uniform_layout ranks size).lists ≡ ranks }
+    ensures counts { (p : ℕ) → p < ranks
+        → length (rank_list (uniform_layout ranks size) p) ≡ uniform_count ranks size p }
+    ensures in_order { concat (uniform_layout ranks size).lists ≡ range_with_len 0 size }
+{}
+
+/// In the contiguous uniform layout of `size` indices over `ranks` ranks the indices of a rank are all below those of
+/// a later one, so the owner never falls as the index rises.
+pub fn uniform_order_law(ranks: u32, size: Gid)
+    requires some_rank { 1 ≤ ranks }
+    ensures consecutive { (p q g h : ℕ) → p < q
+        → stands g (rank_list (uniform_layout ranks size) p) ≡ true
+        → stands h (rank_list (uniform_layout ranks size) q) ≡ true → g < h }
+    ensures monotone { (i j p q : ℕ) → i ≤ j
+        → owner (uniform_layout ranks size) i ≡ Some p
+        → owner (uniform_layout ranks size) j ≡ Some q → p ≤ q }
+    ensures below { (i p : ℕ) → owner (uniform_layout ranks size) i ≡ Some p → p < ranks }
+    ensures owned { (i : ℕ) → i < size → IsSome (owner (uniform_layout ranks size) i) }
+{}
