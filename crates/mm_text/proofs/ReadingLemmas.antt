@@ -1,0 +1,26 @@
+-- Texts that are whole, and texts that are too long.
+use Rattle.std.proofs.Common.{◌≡◌, ℕ, ◌<◌, ◌≤◌, true, false, length, take, leb, ap, ◌∙◌, arith}
+use Rattle.std.proofs.lemmas.Bool.Decides.{nat_tests}
+use Rattle.std.proofs.lemmas.List.{take_all}
+use Rattle.mm_text.specs.declared.file_data.Form.{Form}
+use Rattle.mm_text.specs.Lines.{Text, lines_of}
+use Rattle.mm_text.specs.Reading.{lines_read, most_bytes, reading}
+
+within_limit : (k n : ℕ) → n ≤ k → leb n k ≡ true
+within_limit k n h = grind (arith, nat_tests)
+
+above_limit : (k n : ℕ) → k < n → leb n k ≡ false
+above_limit k n h = grind (arith, nat_tests)
+
+pub reading_whole : (want : Form) (room most : ℕ) (text : Text) → length text ≤ most_bytes
+    → reading want room most text ≡ lines_read true want room most (lines_of true text)
+unfolding reading
+reading_whole want room most text h =
+    ap (λ w. lines_read w want room most (lines_of w (take most_bytes text))) (within_limit most_bytes (length text) h)
+    ∙ ap (λ t. lines_read true want room most (lines_of true t)) (take_all most_bytes text h)
+
+pub reading_long : (want : Form) (room most : ℕ) (text : Text) → most_bytes < length text
+    → reading want room most text ≡ lines_read false want room most (lines_of false (take most_bytes text))
+unfolding reading
+reading_long want room most text h =
+    ap (λ w. lines_read w want room most (lines_of w (take most_bytes text))) (above_limit most_bytes (length text) h)

@@ -1,0 +1,12 @@
+pub mod Taken
+pub mod Written
+pub mod WrittenFiles
+pub mod Lines
+pub mod Numerals
+pub mod Outcomes
+pub mod Banner
+pub mod Sizes
+pub mod Entries
+pub mod Reading
+pub mod Sound
+pub mod Cut

@@ -1,0 +1,28 @@
+-- Counts and values in decimal digits.
+use Rattle.std.specs.Prelude.{◌&&◌, ◌-◌, ◌^◌, ℕ, ℤ, pos, neg_ℤ, Option, Some, None, nat_lt, option_map, unsigned_abs, if◌then◌else◌}
+use Rattle.std.specs.Str.{all_ascii_digits}
+use Rattle.std.specs.Str.Parse.{digits_value, starts_with_minus, without_leading_plus, without_leading_sign}
+use Rattle.mm_text.specs.Lines.{Text, is_word}
+
+-- one or more decimal digits
+abbrev pub digits_of : Text → Option ℕ
+digits_of word = if is_word word && all_ascii_digits word then Some (digits_value 10 word) else None
+
+-- digits behind a plus or nothing
+abbrev pub count_of : Text → Option ℕ
+count_of word = digits_of (without_leading_plus word)
+
+abbrev pub with_sign_of : Text → ℕ → ℤ
+with_sign_of word magnitude = if starts_with_minus word then neg_ℤ (pos magnitude) else pos magnitude
+
+-- digits behind a plus, a minus or nothing
+abbrev pub value_of : Text → Option ℤ
+value_of word = option_map (with_sign_of word) (digits_of (without_leading_sign word))
+
+-- the greatest magnitude of a value
+abbrev pub widest : ℕ
+widest = 2 ^ 127 - 1
+
+-- a value whose magnitude is not above the greatest
+abbrev pub in_width : ℤ → Option ℤ
+in_width value = if nat_lt widest (unsigned_abs value) then None else Some value
