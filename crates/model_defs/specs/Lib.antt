@@ -1,0 +1,2 @@
+pub mod FileMatrix
+pub mod ShowText
