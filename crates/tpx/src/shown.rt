@@ -1,0 +1,34 @@
+//! The cells of a matrix as they are printed.
+ghost use Rattle.std.specs.Prelude.{◌≡◌, true, false, map, IfOk, IfErr, OnOk};
+ghost use Rattle.std.specs.List.{list_any};
+ghost use Rattle.model_defs.specs.ShowText.{shown_cell};
+ghost use Rattle.tpx.specs.Endings.{IsOverflowOrMemory};
+
+use crate::ending::Ending;
+use mm_text::Shown;
+use scalar_laws::Scalar;
+use std::alloc::Global;
+use tables::Cell;
+
+/// The cells with the integers that they show, or `Overflow` exactly where a number is over. Only `Memory` may come
+/// beside.
+pub fn shown_cells<S: Scalar>(alloc: Global, cells: &[Cell<S>]) -> Result<Vec<Shown>, Ending>
+    ensures shown { IfOk result (λ v. v.items ≡ map (shown_cell S.forms) cells.now) }
+    ensures none_over { OnOk result (list_any (λ c. S.forms.is_over c.value) cells.now ≡ false) }
+    ensures over { IfErr result (λ ending. ending ≡ Ending.Overflow → list_any (λ c. S.forms.is_over c.value) cells.now ≡ true) }
+    ensures faults { IfErr result IsOverflowOrMemory }
+{
+    let mut shown = Vec::with_capacity(alloc, cells.len())?;
+    for cell in cells {
+        let value = match cell.value.shown() {
+            Some(value) => value,
+            None => return Err(Ending::Overflow),
+        };
+        shown.push(Shown {
+            row: cell.row,
+            col: cell.col,
+            value,
+        })?;
+    }
+    Ok(shown)
+}
