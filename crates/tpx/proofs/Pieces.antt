@@ -1,5 +1,5 @@
 -- Texts that go to a sink one after the other.
-use Rattle.std.proofs.Common.{◌≡◌, ◌+◌, ◌<◌, ℕ, suc, List, [], ◌++◌, Option, length, get_or, drop, refl, ap, sym, ◌∙◌, subst, add-one, drop-cons, Bor}
+use Rattle.std.proofs.Common.{◌≡◌, ◌+◌, ◌<◌, ℕ, suc, List, ◌++◌, Option, length, get_or, drop, refl, ap, sym, ◌∙◌, subst, add-one, drop-cons, Bor}
 use Rattle.outside.specs.Bytes.{with_bytes}
 use Rattle.mm_text.specs.Taken.{TakesPrefix, HoldsBack}
 use Rattle.std.proofs.Common.{Result, Ok, Err, IsErr, OnOk, OnErr}
@@ -52,11 +52,9 @@ pub prefix-none : (told : Option (List ℕ)) (text : List ℕ) → TakesPrefix t
 prefix-none told text = (0, sym (with_bytes-none told))
 
 -- a message that was written, or of which a prefix was
-pub says-either : (r : Result (Unit {0}) SinkFault) (old now : Option (List ℕ)) (before after : ℕ) (text : List ℕ) →
-    OnOk r (now ≡ with_bytes old text) → OnErr r (TakesPrefix old now text) → (IsErr r → Rose before after) → Says old now before after text
-says-either (Ok x) old now before after text whole part rose = record { whole = λ n. whole; prefix = prefix-whole old now text whole }
-says-either (Err x) old now before after text whole part rose = record { whole = λ n. absurd (n (rose refl)); prefix = part }
-
--- no message
-pub says-none : (told : Option (List ℕ)) (count : ℕ) → Says told told count count []
-says-none told count = record { whole = λ n. sym (with_bytes-none told); prefix = prefix-none told [] }
+pub says-either : {S : Type 0} (told : S → Option (List ℕ)) (faults : S → ℕ) (r : Result (Unit {0}) SinkFault) (old now : S) (text : List ℕ) →
+    OnOk r (told now ≡ with_bytes (told old) text) → OnErr r (TakesPrefix (told old) (told now) text) →
+    (IsErr r → Rose (faults old) (faults now)) → Says told faults old now text
+says-either told faults (Ok x) old now text whole part rose =
+    record { whole = λ n. whole; prefix = prefix-whole (told old) (told now) text whole }
+says-either told faults (Err x) old now text whole part rose = record { whole = λ n. absurd (n (rose refl)); prefix = part }

@@ -24,7 +24,7 @@ MayOverflow not_told = Unit {0}
 MayOverflow (shows name file) = is_over file ≡ true
 MayOverflow _ = ⊥
 
--- of a message the sink took the whole, or at a fault a prefix
-pub record Says (old now : Option (List ℕ)) (faults_old faults_now : ℕ) (message : List ℕ) : Type 0 where
-  pub whole : ¬ Rose faults_old faults_now → now ≡ with_bytes old message
-  pub prefix : TakesPrefix old now message
+-- of a message a sink took the whole, or at a fault a prefix
+pub record Says {S : Type 0} (told : S → Option (List ℕ)) (faults : S → ℕ) (old now : S) (message : List ℕ) : Type 0 where
+  pub whole : ¬ Rose (faults old) (faults now) → told now ≡ with_bytes (told old) message
+  pub prefix : TakesPrefix (told old) (told now) message

@@ -32,7 +32,9 @@ message_of name Overflow = overflow_message
 
 -- the cells of the matrix of a file as they are printed
 abbrev pub shown_of : File → List Shown
-shown_of file = map (shown_cell weighed_forms) (cells_of file.rows file.cols (file_matrix weighed_semiring weighed_forms file.mirror file.lines))
+shown_of file =
+    let matrix = file_matrix weighed_semiring weighed_forms file.mirror file.lines in
+    map (shown_cell weighed_forms) (cells_of file.rows file.cols matrix)
 
 -- what is written of a file, and whether a place's weight is too great for it
 abbrev pub text_of : File → List ℕ

@@ -1,4 +1,6 @@
 -- What there is to do, by the words of the command line and the bytes that the files tell.
+use Rattle.std.specs.Prelude.{String, map, string_bytes}
+use Rattle.std.specs.Global.{Global}
 use Rattle.std.specs.Prelude.{ℕ, List, Option, None, Some, Ok, Err}
 use Rattle.mm_text.specs.declared.fault.MmFault.{MmFault}
 use Rattle.mm_text.specs.declared.file_data.Form.TheVariants.{Coordinate}
@@ -45,3 +47,10 @@ asked_input (Some (show ranks name)) told = told_input name told
 -- the input of these words over these files
 abbrev pub input : List (List ℕ) → Option (List ℕ → Option (List ℕ)) → Input
 input words told = asked_input (command words) told
+
+-- the command of a command line, and its input
+abbrev pub command_of : List (String Global) → Option Command
+command_of words = command (map string_bytes words)
+
+abbrev pub input_of : List (String Global) → Option (List ℕ → Option (List ℕ)) → Input
+input_of words told = input (map string_bytes words) told

@@ -51,6 +51,10 @@ joined pieces = flat_map (λ piece. piece.now) pieces
 abbrev pub message_line : List ℕ → List ℕ
 message_line text = codes "tpx: " ++ text ++ 10 ∷ []
 
+-- the message that a file has a fault of this name, with what is said behind it
+abbrev pub fault_line : List ℕ → List ℕ → List ℕ → List ℕ → List ℕ
+fault_line file name space number = message_line (file ++ codes ": " ++ (name ++ (space ++ number)))
+
 abbrev pub memory_message : List ℕ
 memory_message = message_line (codes "out of memory")
 

@@ -23,5 +23,6 @@ ranks_of _ = None
 
 -- the command of the words after the program's name: exactly three, `show RANKS FILE`
 abbrev pub command : List (List ℕ) → Option Command
-command (verb ∷ ranks ∷ file ∷ []) = if pointwise nat_eq verb (codes "show") then option_map (λ n. show n file) (ranks_of ranks) else None
+command (verb ∷ ranks ∷ file ∷ []) =
+    if pointwise nat_eq verb (codes "show") then option_map (λ n. show n file) (ranks_of ranks) else None
 command _ = None

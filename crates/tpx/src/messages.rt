@@ -3,7 +3,7 @@ ghost use Rattle.std.specs.Prelude.{◌≡◌, ◌∷◌, ◌++◌, List, ℕ, I
 ghost use Rattle.outside.specs.Bytes.{with_bytes};
 ghost use Rattle.outside.specs.Faults.{Rose};
 ghost use Rattle.mm_text.specs.Taken.{TakesPrefix};
-ghost use Rattle.tpx.specs.Messages.{fault_name, fault_number, joined, message_line, refused_message, unread_message};
+ghost use Rattle.tpx.specs.Messages.{fault_line, fault_name, fault_number, joined, refused_message, unread_message};
 ghost use Rattle.tpx.specs.Causes.{Says};
 ghost use Rattle.tpx.specs.Endings.{message_of, status_of};
 
@@ -75,10 +75,12 @@ fn write_fault<'a, E: Sink>(
     space: &'a str,
     number: &'a str,
 ) -> Result<(), SinkFault>
-    ensures taken { OnOk result (E.told err.new ≡ with_bytes (E.told err.old) (message_line (file.now ++ codes ": " ++ (name.now ++ (space.now ++ number.now))))) }
+    ensures taken { let text = fault_line file.now name.now space.now number.now in
+        OnOk result (E.told err.new ≡ with_bytes (E.told err.old) text) }
     ensures no_fault { OnOk result (E.faults err.new ≡ E.faults err.old) }
     ensures fault { IsErr result → Rose (E.faults err.old) (E.faults err.new) }
-    ensures prefix { OnErr result (TakesPrefix (E.told err.old) (E.told err.new) (message_line (file.now ++ codes ": " ++ (name.now ++ (space.now ++ number.now))))) }
+    ensures prefix { let text = fault_line file.now name.now space.now number.now in
+        OnErr result (TakesPrefix (E.told err.old) (E.told err.new) text) }
 {
     write_pieces(err, &["tpx: ", file, ": ", name, space, number, "\n"])
 }
@@ -134,7 +136,7 @@ fn write_message<E: Sink>(err: &mut E, file: &str, ending: &Ending) -> Result<()
 /// Writes the message of an ending, and answers its status. A failing sink changes no status.
 pub fn report<E: Sink>(err: &mut E, file: &str, ending: &Ending) -> u8
     ensures status { result ≡ status_of ending.now }
-    ensures says { Says (E.told err.old) (E.told err.new) (E.faults err.old) (E.faults err.new) (message_of file.now ending.now) }
+    ensures says { Says E.told E.faults err.old err.new (message_of file.now ending.now) }
     ensures quiet { ending.now ≡ Ending.Written → err.new ≡ err.old }
 {
     if let Ending::Written = ending {

@@ -40,9 +40,11 @@ fn read_file<F: Files>(alloc: Global, files: &mut F, name: &str) -> Result<FileD
     ensures accepted { IfOk result (λ found. IsAccepted (told_input name.now (F.told files.old)) (file_of found)) }
     ensures sound { IfOk result (λ found. IsSound Coordinate most_entries most_rows (file_of found)) }
     ensures ends { IfErr result (EndsReading (told_input name.now (F.told files.old))) }
-    ensures unread { IfErr result (λ ending. ending ≡ Ending.Unread → Rose (F.faults files.old name.now) (F.faults files.new name.now)) }
+    ensures unread { IfErr result (λ ending. ending ≡ Ending.Unread
+        → Rose (F.faults files.old name.now) (F.faults files.new name.now)) }
     ensures no_fault { OnOk result ((n : List ℕ) → F.faults files.new n ≡ F.faults files.old n) }
-    ensures no_fault_refused { IfErr result (λ ending. IsUnreadOrMemory ending ⊎ ((n : List ℕ) → F.faults files.new n ≡ F.faults files.old n)) }
+    ensures no_fault_refused { IfErr result (λ ending. IsUnreadOrMemory ending
+        ⊎ ((n : List ℕ) → F.faults files.new n ≡ F.faults files.old n)) }
 {
     match read_matrix(
         alloc,
@@ -77,8 +79,10 @@ fn matrix_cells(alloc: Global, ranks: u32, file: &FileData) -> Result<Vec<Shown>
 fn write_matrix<O: Sink>(out: &mut O, file: &FileData, cells: &[Shown]) -> Ending
     requires shown { cells.now ≡ shown_of (file_of file.now) }
     ensures ends { IsWrittenOrNot result }
-    ensures written { result ≡ Ending.Written → O.told out.new ≡ with_bytes (O.told out.old) (text_of (file_of file.now)) }
-    ensures prefix { result ≡ Ending.Unwritten → TakesPrefix (O.told out.old) (O.told out.new) (text_of (file_of file.now)) }
+    ensures written { result ≡ Ending.Written
+        → O.told out.new ≡ with_bytes (O.told out.old) (text_of (file_of file.now)) }
+    ensures prefix { result ≡ Ending.Unwritten
+        → TakesPrefix (O.told out.old) (O.told out.new) (text_of (file_of file.now)) }
     ensures unwritten { result ≡ Ending.Unwritten → Rose (O.faults out.old) (O.faults out.new) }
     ensures no_fault { result ≡ Ending.Written → O.faults out.new ≡ O.faults out.old }
 {
@@ -103,11 +107,16 @@ pub fn show<F: Files, O: Sink>(
     ensures ends { EndsBy (told_input name.now (F.told files.old)) result }
     ensures unread { result ≡ Ending.Unread → Rose (F.faults files.old name.now) (F.faults files.new name.now) }
     ensures unwritten { result ≡ Ending.Unwritten → Rose (O.faults out.old) (O.faults out.new) }
-    ensures written { result ≡ Ending.Written → (shown : List ℕ) (file : File) → told_input name.now (F.told files.old) ≡ shows shown file → O.told out.new ≡ with_bytes (O.told out.old) (text_of file) }
-    ensures prefix { result ≡ Ending.Unwritten → (shown : List ℕ) (file : File) → told_input name.now (F.told files.old) ≡ shows shown file → TakesPrefix (O.told out.old) (O.told out.new) (text_of file) }
+    ensures written { result ≡ Ending.Written
+        → (shown : List ℕ) (file : File) → told_input name.now (F.told files.old) ≡ shows shown file
+        → O.told out.new ≡ with_bytes (O.told out.old) (text_of file) }
+    ensures prefix { result ≡ Ending.Unwritten
+        → (shown : List ℕ) (file : File) → told_input name.now (F.told files.old) ≡ shows shown file
+        → TakesPrefix (O.told out.old) (O.told out.new) (text_of file) }
     ensures no_write_fault { result ≡ Ending.Written → O.faults out.new ≡ O.faults out.old }
     ensures untouched { IsWrittenOrNot result ⊎ (out.new ≡ out.old) }
-    ensures no_read_fault { IsUnreadOrMemory result ⊎ ((n : List ℕ) → F.faults files.new n ≡ F.faults files.old n) }
+    ensures no_read_fault { IsUnreadOrMemory result
+        ⊎ ((n : List ℕ) → F.faults files.new n ≡ F.faults files.old n) }
 {
     let file = match read_file(alloc, files, name) {
         Ok(file) => file,

@@ -15,7 +15,8 @@ use tables::Cell;
 pub fn shown_cells<S: Scalar>(alloc: Global, cells: &[Cell<S>]) -> Result<Vec<Shown>, Ending>
     ensures shown { IfOk result (λ v. v.items ≡ map (shown_cell S.forms) cells.now) }
     ensures none_over { OnOk result (list_any (λ c. S.forms.is_over c.value) cells.now ≡ false) }
-    ensures over { IfErr result (λ ending. ending ≡ Ending.Overflow → list_any (λ c. S.forms.is_over c.value) cells.now ≡ true) }
+    ensures over { IfErr result (λ ending. ending ≡ Ending.Overflow
+        → list_any (λ c. S.forms.is_over c.value) cells.now ≡ true) }
     ensures faults { IfErr result IsOverflowOrMemory }
 {
     let mut shown = Vec::with_capacity(alloc, cells.len())?;

@@ -1,5 +1,5 @@
 //! The top call: one command of the program.
-ghost use Rattle.std.specs.Prelude.{◌≡◌, ◌≢◌, ◌⊎◌, ◌↔◌, ℕ, true, false, List, None, Some, map, string_bytes};
+ghost use Rattle.std.specs.Prelude.{◌≡◌, ◌⊎◌, ◌↔◌, ℕ, true, false, List, None, Some};
 ghost use Rattle.outside.specs.declared.name.Name.{Name};
 ghost use Rattle.outside.specs.Bytes.{with_bytes};
 ghost use Rattle.outside.specs.Faults.{Rose};
@@ -9,9 +9,9 @@ ghost use Rattle.mm_text.specs.Taken.{TakesPrefix};
 ghost use Rattle.tpx.specs.declared.ending.Ending.{Ending};
 ghost use Rattle.tpx.specs.Causes.{MayBeRefused, MayBeShown, MayOverflow, Says};
 ghost use Rattle.tpx.specs.Endings.{is_over, status_of, text_of};
-ghost use Rattle.tpx.specs.Input.{input, no_file, refused, shows};
-ghost use Rattle.tpx.specs.Messages.{memory_message, overflow_message, refused_message, unread_message, unwritten_message, usage_message};
-ghost use Rattle.tpx.specs.Words.{command};
+ghost use Rattle.tpx.specs.Input.{command_of, input_of, no_file, refused, shows};
+ghost use Rattle.tpx.specs.Messages.{memory_message, overflow_message, refused_message};
+ghost use Rattle.tpx.specs.Messages.{unread_message, unwritten_message, usage_message};
 ghost use Rattle.tpx.specs.Words.{show as show_command};
 
 use crate::ending::Ending;
@@ -51,36 +51,53 @@ pub fn top<F: Files, W: Wire, O: Sink, E: Sink>(
 
     // What the words and the bytes that are told say of the status.
     ensures status { (ending : Ending) × (result ≡ status_of ending) }
-    ensures usage { (result ≡ 2) ↔ (command (map string_bytes words.now) ≡ None) }
-    ensures refused_only { result ≡ 5 → MayBeRefused (input (map string_bytes words.now) (F.told files.old)) }
-    ensures overflow_only { result ≡ 7 → MayOverflow (input (map string_bytes words.now) (F.told files.old)) }
-    ensures shown_only { (result ≡ 0) ⊎ (result ≡ 4) → MayBeShown (input (map string_bytes words.now) (F.told files.old)) }
-    ensures absent { (name : List ℕ) → input (map string_bytes words.now) (F.told files.old) ≡ no_file name → (result ≡ 3) ⊎ (result ≡ 1) }
-    ensures refused { (name : List ℕ) (fault : MmFault) → input (map string_bytes words.now) (F.told files.old) ≡ refused name fault → (result ≡ 5) ⊎ (result ≡ 3) ⊎ (result ≡ 1) }
-    ensures overflow { (name : List ℕ) (file : File) → input (map string_bytes words.now) (F.told files.old) ≡ shows name file → is_over file ≡ true → (result ≡ 7) ⊎ (result ≡ 3) ⊎ (result ≡ 1) }
-    ensures complete { (name : List ℕ) (file : File) → input (map string_bytes words.now) (F.told files.old) ≡ shows name file → is_over file ≡ false → (result ≡ 0) ⊎ (result ≡ 4) ⊎ (result ≡ 3) ⊎ (result ≡ 1) }
+    ensures usage { (result ≡ 2) ↔ (command_of words.now ≡ None) }
+    ensures refused_only { result ≡ 5 → MayBeRefused (input_of words.now (F.told files.old)) }
+    ensures overflow_only { result ≡ 7 → MayOverflow (input_of words.now (F.told files.old)) }
+    ensures shown_only { (result ≡ 0) ⊎ (result ≡ 4) → MayBeShown (input_of words.now (F.told files.old)) }
+    ensures absent { (name : List ℕ) → input_of words.now (F.told files.old) ≡ no_file name
+        → (result ≡ 3) ⊎ (result ≡ 1) }
+    ensures refused { (name : List ℕ) (fault : MmFault) → input_of words.now (F.told files.old) ≡ refused name fault
+        → (result ≡ 5) ⊎ (result ≡ 3) ⊎ (result ≡ 1) }
+    ensures overflow { (name : List ℕ) (file : File) → input_of words.now (F.told files.old) ≡ shows name file
+        → is_over file ≡ true → (result ≡ 7) ⊎ (result ≡ 3) ⊎ (result ≡ 1) }
+    ensures complete { (name : List ℕ) (file : File) → input_of words.now (F.told files.old) ≡ shows name file
+        → is_over file ≡ false → (result ≡ 0) ⊎ (result ≡ 4) ⊎ (result ≡ 3) ⊎ (result ≡ 1) }
 
     // The faults of the outside.
-    ensures unread { result ≡ 3 → (ranks : ℕ) (name : List ℕ) → command (map string_bytes words.now) ≡ Some (show_command ranks name) → Rose (F.faults files.old name) (F.faults files.new name) }
-    ensures no_read_fault { (result ≡ 1) ⊎ (result ≡ 3) ⊎ ((name : List ℕ) → F.faults files.new name ≡ F.faults files.old name) }
+    ensures unread { result ≡ 3
+        → (ranks : ℕ) (name : List ℕ) → command_of words.now ≡ Some (show_command ranks name)
+        → Rose (F.faults files.old name) (F.faults files.new name) }
+    ensures no_read_fault { (result ≡ 1) ⊎ (result ≡ 3)
+        ⊎ ((name : List ℕ) → F.faults files.new name ≡ F.faults files.old name) }
     ensures unwritten { result ≡ 4 → Rose (O.faults out.old) (O.faults out.new) }
     ensures no_write_fault { result ≡ 0 → O.faults out.new ≡ O.faults out.old }
 
     // What is written.
-    ensures written { result ≡ 0 → (name : List ℕ) (file : File) → input (map string_bytes words.now) (F.told files.old) ≡ shows name file → O.told out.new ≡ with_bytes (O.told out.old) (text_of file) }
-    ensures prefix { result ≡ 4 → (name : List ℕ) (file : File) → input (map string_bytes words.now) (F.told files.old) ≡ shows name file → TakesPrefix (O.told out.old) (O.told out.new) (text_of file) }
+    ensures written { result ≡ 0
+        → (name : List ℕ) (file : File) → input_of words.now (F.told files.old) ≡ shows name file
+        → O.told out.new ≡ with_bytes (O.told out.old) (text_of file) }
+    ensures prefix { result ≡ 4
+        → (name : List ℕ) (file : File) → input_of words.now (F.told files.old) ≡ shows name file
+        → TakesPrefix (O.told out.old) (O.told out.new) (text_of file) }
     ensures untouched { (result ≡ 0) ⊎ (result ≡ 4) ⊎ (out.new ≡ out.old) }
     ensures same_wire { wire.new ≡ wire.old }
 
     // The messages.
     ensures quiet { result ≡ 0 → err.new ≡ err.old }
-    ensures memory_message { result ≡ 1 → Says (E.told err.old) (E.told err.new) (E.faults err.old) (E.faults err.new) memory_message }
-    ensures usage_message { result ≡ 2 → Says (E.told err.old) (E.told err.new) (E.faults err.old) (E.faults err.new) usage_message }
-    ensures unread_message { result ≡ 3 → (ranks : ℕ) (name : List ℕ) → command (map string_bytes words.now) ≡ Some (show_command ranks name) → Says (E.told err.old) (E.told err.new) (E.faults err.old) (E.faults err.new) (unread_message name) }
-    ensures unwritten_message { result ≡ 4 → Says (E.told err.old) (E.told err.new) (E.faults err.old) (E.faults err.new) unwritten_message }
-    ensures refused_message { result ≡ 5 → (name : List ℕ) (fault : MmFault) → input (map string_bytes words.now) (F.told files.old) ≡ refused name fault → Says (E.told err.old) (E.told err.new) (E.faults err.old) (E.faults err.new) (refused_message name fault) }
-    ensures some_refusal { result ≡ 5 → (ranks : ℕ) (name : List ℕ) → command (map string_bytes words.now) ≡ Some (show_command ranks name) → (fault : MmFault) × Says (E.told err.old) (E.told err.new) (E.faults err.old) (E.faults err.new) (refused_message name fault) }
-    ensures overflow_message { result ≡ 7 → Says (E.told err.old) (E.told err.new) (E.faults err.old) (E.faults err.new) overflow_message }
+    ensures memory_message { result ≡ 1 → Says E.told E.faults err.old err.new memory_message }
+    ensures usage_message { result ≡ 2 → Says E.told E.faults err.old err.new usage_message }
+    ensures unread_message { result ≡ 3
+        → (ranks : ℕ) (name : List ℕ) → command_of words.now ≡ Some (show_command ranks name)
+        → Says E.told E.faults err.old err.new (unread_message name) }
+    ensures unwritten_message { result ≡ 4 → Says E.told E.faults err.old err.new unwritten_message }
+    ensures refused_message { result ≡ 5
+        → (name : List ℕ) (fault : MmFault) → input_of words.now (F.told files.old) ≡ refused name fault
+        → Says E.told E.faults err.old err.new (refused_message name fault) }
+    ensures some_refusal { result ≡ 5
+        → (ranks : ℕ) (name : List ℕ) → command_of words.now ≡ Some (show_command ranks name)
+        → (fault : MmFault) × Says E.told E.faults err.old err.new (refused_message name fault) }
+    ensures overflow_message { result ≡ 7 → Says E.told E.faults err.old err.new overflow_message }
 {
     let _nothing_is_posted = wire;
     let Some(command) = ShowCommand::read(words) else {

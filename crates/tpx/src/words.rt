@@ -1,7 +1,8 @@
 //! The words of the command line.
-ghost use Rattle.std.specs.Prelude.{◌≡◌, ◌≤◌, IfSome, map, string_bytes};
+ghost use Rattle.std.specs.Prelude.{◌≡◌, ◌≤◌, IfSome};
 ghost use Rattle.std.specs.Option.{option_map};
-ghost use Rattle.tpx.specs.Words.{command, ranks_of};
+ghost use Rattle.tpx.specs.Input.{command_of};
+ghost use Rattle.tpx.specs.Words.{ranks_of};
 
 /// The words of `show`: a number of ranks, from 1 to 32, and the name of a file.
 #[derive(Clone, Copy)]
@@ -31,7 +32,7 @@ impl<'a> ShowCommand<'a> {
 
     /// The command of the words after the program's name; None where they are no command.
     pub fn read(words: &'a [String]) -> Option<ShowCommand<'a>>
-        ensures asked { option_map asked result ≡ command (map string_bytes words.now) }
+        ensures asked { option_map asked result ≡ command_of words.now }
         ensures ranks { IfSome result (λ c. (1 ≤ c.ranks) × (c.ranks ≤ 32)) }
     {
         match words {

@@ -59,14 +59,14 @@ returns-clause-prefix g c = λ s name file e.
 
 pub returns-clause-unread_message : goal.returns-clause-unread_message
 returns-clause-unread_message g c = λ three ranks name e.
-    subst (λ (t : List ℕ). Says (g.E.Sink.told c.args.err.now) (g.E.Sink.told c.report-2.new.err) (g.E.Sink.faults c.args.err.now) (g.E.Sink.faults c.report-2.new.err) t)
+    subst (λ (t : List ℕ). Says g.E.Sink.told g.E.Sink.faults c.args.err.now c.report-2.new.err t)
     (ap (λ (x : Ending). message_of c.in-Some.command.file.now x) (unread-ending _ _ c.report-2.ensures.status three)
     ∙ ap (λ (n : List ℕ). unread_message n) (same_command _ _ ranks _ name c.in-Some.ensures.asked e))
     c.report-2.ensures.says
 
 pub returns-clause-refused_message : goal.returns-clause-refused_message
 returns-clause-refused_message g c = λ five name fault e.
-    subst (λ (t : List ℕ). Says (g.E.Sink.told c.args.err.now) (g.E.Sink.told c.report-2.new.err) (g.E.Sink.faults c.args.err.now) (g.E.Sink.faults c.report-2.new.err) t)
+    subst (λ (t : List ℕ). Says g.E.Sink.told g.E.Sink.faults c.args.err.now c.report-2.new.err t)
     (ap (λ (x : Ending). message_of c.in-Some.command.file.now x)
     (refused-fault name fault c.show-ending.result _ c.report-2.ensures.status
     (subst (λ (i : Input). EndsBy i c.show-ending.result) (sym (at_command _ _ _ _ c.in-Some.ensures.asked) ∙ e) c.show-ending.ensures.ends) five)
@@ -83,7 +83,7 @@ pub returns-clause-some_refusal : goal.returns-clause-some_refusal
 returns-clause-some_refusal g c = λ five ranks name e.
     let refusal = refused-ending c.show-ending.result c.report-2.result c.report-2.ensures.status five in (
       refusal.0,
-      subst (λ (t : List ℕ). Says (g.E.Sink.told c.args.err.now) (g.E.Sink.told c.report-2.new.err) (g.E.Sink.faults c.args.err.now) (g.E.Sink.faults c.report-2.new.err) t)
+      subst (λ (t : List ℕ). Says g.E.Sink.told g.E.Sink.faults c.args.err.now c.report-2.new.err t)
           (ap (λ (x : Ending). message_of c.in-Some.command.file.now x) refusal.1
           ∙ ap (λ (n : List ℕ). refused_message n refusal.0) (same_command _ _ ranks _ name c.in-Some.ensures.asked e))
           c.report-2.ensures.says,
