@@ -16,7 +16,8 @@ pub trait Files {
     /// Puts a prefix of what stands in the file from byte `at` on into the head of `buf`, and answers its length: 0
     /// only at the end of the file, or for an empty buffer. The rest of `buf` stays.
     ///
-    /// `Failed` comes only where the count of faults of `name` rose; a name that does not exist is such a fault.
+    /// Bytes are counted from 0. `Failed` comes only where the count of faults of `name` rose; a name that does not exist
+    /// is such a fault. After it nothing is said of `buf`.
     fn read_at(&mut self, name: &str, at: u64, buf: &mut [u8]) -> Result<usize, Failed>
         ensures same_files { told self.new ≡ told self.old }
         ensures never_falls { (n : List ℕ) → faults self.old n ≤ faults self.new n }

@@ -129,6 +129,7 @@ impl MailRoom {
 impl Wire for MailRoom {
     ghost use Rattle.std.specs.Prelude.{Some, true};
     ghost use Rattle.outside.specs.MailRoom.{names_of, pending_in, posted_in};
+    ghost use Rattle.outside.specs.PendingLetters.{pending_in-posted_in};
 
     ghost pending = { λ m. pending_in m.letters };
 
@@ -153,4 +154,6 @@ impl Wire for MailRoom {
     fn pending_count(&self) -> u64 {
         self.pending_count()
     }
+
+    ghost pending_is_posted = { λ m name letter. pending_in-posted_in m.letters name letter };
 }

@@ -28,7 +28,7 @@ impl Model for MemSink {
 }
 
 impl MemSink {
-    /// An empty sink with memory for `room` bytes, and no write that is to fail.
+    /// An empty sink with memory for `room` bytes, and no write that is to fail. `Err` means that memory ran out.
     pub fn new(alloc: Global, room: u64) -> Result<MemSink, AllocError>
         ensures { IfOk result (λ s. s ≡ record { bytes = []; room = room; plan = no_faults }) }
     {

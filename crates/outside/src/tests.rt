@@ -135,3 +135,12 @@ fn a_sink_over_a_writer_writes(rt: HostRuntime) -> Result<(), Fail> {
     assert_eq!(rt; write(&mut full, b"c"), Err(Failed));
     Ok(())
 }
+
+#[test]
+fn names_are_ordered_by_phase_then_sender_then_receiver(rt: HostRuntime) -> Result<(), Fail> {
+    let name = |phase, from, to| Name { phase, from, to };
+    assert!(rt; name(0, 1, 1) < name(1, 0, 0));
+    assert!(rt; name(0, 0, 1) < name(0, 1, 0));
+    assert!(rt; name(0, 0, 0) < name(0, 0, 1));
+    Ok(())
+}

@@ -71,4 +71,8 @@ pub trait Wire {
     /// The number of pending letters.
     fn pending_count(&self) -> u64
         ensures { IsCountOf (pending self.now) result };
+
+    /// A pending letter is the one that was posted last under its name, so it can be taken.
+    ghost pending_is_posted: { (wire : Self) (name : Name) (letter : List ℕ) → pending wire name ≡ Some letter
+        → posted wire name ≡ Some letter };
 }
