@@ -30,7 +30,7 @@ impl Model for Layout {
 
 impl Layout {
     /// The contiguous uniform layout: each of 1 to 32 ranks has `size / ranks` indices in order, and each of the first
-    /// `size % ranks` ranks has one more (`Tpetra::Map`). The size is at most 16,777,216.
+    /// `size % ranks` ranks has one more (`Tpetra::Map`). The size is at most 16,777,216. `Err` means that memory ran out.
     pub fn uniform(alloc: Global, ranks: u32, size: Gid) -> Result<Layout, AllocError>
         requires some_rank { 1 ≤ ranks }
         requires ranks_limit { ranks ≤ 32 }

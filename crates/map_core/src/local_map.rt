@@ -31,7 +31,8 @@ impl Model for LocalMap {
 impl LocalMap {
     /// The map that has the list as it stands, of fewer than 2^32 indices.
     ///
-    /// `Repeated` comes exactly where an index stands twice, with the first one that stands earlier in the list.
+    /// `Repeated` comes exactly where an index stands twice, with the first one that stands earlier in the list. `NoMem`
+    /// means that memory ran out.
     pub fn from_list(alloc: Global, gids: &[Gid]) -> Result<Rc<LocalMap>, ListFault>
         requires few { length gids.now < 2 ^ 32 }
         ensures kept { IfOk result (λ map. map.value ≡ gids.now) }

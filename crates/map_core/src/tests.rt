@@ -1,4 +1,4 @@
-//! The worked rows, and each public call once.
+//! Worked examples, and each public call once.
 use crate::{Layout, ListFault, LocalMap, uniform_owner};
 use std::test::Fail;
 

@@ -7,6 +7,8 @@ use crate::Gid;
 
 /// The rank that owns the index `gid` in the contiguous uniform layout of `size` indices over `ranks` ranks, by a
 /// division and with no table. Nothing is allocated and no rank is asked (`Tpetra::Map`, uniform contiguous).
+///
+/// There are 1 to 32 ranks and at most 2^40 indices; `gid` is below the size. Indices and ranks are counted from 0.
 pub fn uniform_owner(ranks: u32, size: Gid, gid: Gid) -> u32
     requires some_rank { 1 ≤ ranks }
     requires ranks_limit { ranks ≤ 32 }

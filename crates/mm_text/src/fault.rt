@@ -51,7 +51,7 @@ pub enum MmFault {
     /// More entries are announced than there is room for.
     #[error("TooManyEntries")]
     TooManyEntries,
-    /// The file has more than 536,870,912 bytes.
+    /// The file has more than 536,870,912 bytes, and no line that ends within them has a fault.
     #[error("TooLong")]
     TooLong,
     /// Memory ran out.

@@ -1,4 +1,9 @@
-//! Matrix Market text: a reader and writers of coordinate and array files, and what such a file holds.
+//! Matrix Market text: a reader and writers of coordinate and array files, and what such a file holds, in a profile of
+//! the NIST Matrix Market exchange formats for whole numbers.
+//!
+//! What a text is read as, its file or its first fault, is the definition `reading` in specs/; the reader answers it. What
+//! the writers write is read again as the same entries. Rows and columns are counted from 1 in a text and from 0 in
+//! values. The crate stands on `outside`; `model_defs`, `gathered_rows` and `tpx` stand on it.
 #![tactic(auto)]
 
 mod banner;

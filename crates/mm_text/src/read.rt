@@ -89,7 +89,8 @@ fn read_file<F: Files>(alloc: Global, files: &mut F, name: &str) -> Result<Vec<u
 /// the NIST Matrix Market exchange formats. It has at most `most` rows, 16,777,216 columns and `room` entries, and its
 /// text at most 536,870,912 bytes.
 ///
-/// Where the file has faults, the first in file order is answered, as `MmFault` lists them; lines are counted from 1.
+/// Where the file has faults, the first in file order is answered, and within a line the first in the order of the
+/// tests: those of the words before those of the ranges, and the width of the value last. Lines are counted from 1.
 /// `ReadFault` comes only where a read of this name failed, and `NoMem` where memory ran out. At the end of a file that
 /// is too long, or at a line that ends behind the most bytes, no other fault than `TooLong` comes.
 ///
@@ -122,7 +123,7 @@ pub fn read_matrix<F: Files>(
         → F.told files.old ≡ Some source → source name.now ≡ None
         → MatchResult result (λ found. ⊥) (λ fault. ¬ IsTextFault fault) }
 
-    // Only a read that failed is a ReadFault, and after one nothing else is answered.
+    // Only a read that failed is a ReadFault; after one neither a file nor a fault of the text is answered.
     ensures read_fault { IsErrOf result MmFault.ReadFault
         → Rose (F.faults files.old name.now) (F.faults files.new name.now) }
     ensures no_fault { OnOk result ((n : List ℕ) → F.faults files.new n ≡ F.faults files.old n) }

@@ -1,7 +1,8 @@
 //! What files and values stand for: the definitions that span several crates, over any kind of number.
 //!
 //! A file's entries stand for cells, its cells for a matrix, and a matrix for the text that shows it. A matrix is seen
-//! as a table: the number at each place, if that place is there.
+//! as a table: the number at each place, if that place is there. The crate stands on `scalar_laws`, `tables` and
+//! `mm_text`; `gathered_rows` and `tpx` stand on it.
 #![tactic(auto)]
 
 pub use mm_text::{FileData, Form, Line, Mirror, Shown};

@@ -6,6 +6,10 @@ use std::alloc::AllocError;
 use std::marker::PhantomData;
 
 /// A number modulo `M::VALUE` (modular arithmetic, the standard term), kept as the number below it.
+///
+/// Each value of a file has one, the number below the modulus that is congruent to it. `top` is the greater of the two
+/// numbers that are kept, and none is ever over. In a message it is the number in 8 bytes, the lowest first, and 24 zero
+/// bytes; of any bytes the first 8 are reduced.
 #[derive(Copy, Debug, PartialEq, Eq)]
 pub struct Residue<M: Modulus> {
     value: u64,

@@ -14,6 +14,10 @@ const OVER_WEIGHT: u128 = 340282366920938463463374607431768211455;
 ///
 /// Sums and products act on value and weight alike, so whether a result is Over depends on the
 /// weights alone, and neither on the order of the terms nor on how they cancel.
+///
+/// Of a file it takes each value but -2^127, with its magnitude as the weight. `top` is the greater magnitude with the
+/// greater weight. In a message it is the value and then the weight, each in 16 bytes, the lowest first; Over is value 0
+/// with weight 2^128 - 1, and bytes that hold no number are Over.
 #[derive(Clone, Copy, Debug, PartialEq, Eq)]
 pub struct Weighed {
     value: i128,
