@@ -10,7 +10,7 @@ use Rattle.tpx.specs.ReadFile.{EndsReading, IsAccepted}
 pub ends_reading : (i : Input) (e : Ending) → EndsReading i e → EndsBy i e
 ends_reading not_told Memory h = tt
 ends_reading not_told Unread h = tt
-ends_reading not_told (Refused f) h = tt
+ends_reading not_told (Refused f) h = h
 ends_reading (no_file n) Memory h = tt
 ends_reading (no_file n) Unread h = tt
 ends_reading (refused n f) Memory h = tt

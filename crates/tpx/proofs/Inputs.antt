@@ -1,8 +1,10 @@
 -- The input of a command that was read, and of words that are no command.
-use Rattle.std.proofs.Common.{◌≡◌, ℕ, List, Option, Some, None, refl, sym, ap, ◌∙◌, arith}
+use Rattle.std.proofs.Common.{subst, ◌≡◌, ℕ, List, Option, Some, None, refl, sym, ap, ◌∙◌, arith}
 use Rattle.mm_text.specs.declared.fault.MmFault.{MmFault}
 use Rattle.mm_text.specs.Outcomes.{Outcome}
-use Rattle.std.specs.Prelude.{Ok, Err}
+use Rattle.std.specs.Prelude.{Ok, Err, IfErr}
+use Rattle.mm_text.specs.Outcomes.{IsTextFault}
+use Rattle.mm_text.proofs.FaultLemmas.{reading_fits}
 use Rattle.mm_text.specs.Reading.{File, reading}
 use Rattle.mm_text.specs.declared.file_data.Form.TheVariants.{Coordinate}
 use Rattle.tpx.specs.declared.ending.Ending.{Ending}
@@ -81,3 +83,17 @@ same_command cmd r m n k e f = let h : Some (show r n) ≡ Some (show m k) = e �
 pub refused-ending : (e : Ending) (s : ℕ) → s ≡ status_of e → s ≡ 5 → (f : MmFault) × (e ≡ Refused f)
 refused-ending (Refused f) s is five = (f, refl)
 refused-ending e s is five = absurd (omega arith)
+
+judged-text : (n : List ℕ) (o : Outcome File) (f : MmFault) → IfErr o IsTextFault → EndsBy (judged n o) (Refused f) → IsTextFault f
+judged-text n (Ok x) f h e = absurd e
+judged-text n (Err x) f h e = subst IsTextFault (sym e) h
+
+opened-text : (n : List ℕ) (t : Option (List ℕ)) (f : MmFault) → EndsBy (opened n t) (Refused f) → IsTextFault f
+opened-text n None f e = absurd e
+opened-text n (Some text) f e =
+    judged-text n (reading Coordinate most_entries most_rows text) f (reading_fits Coordinate most_entries most_rows text) e
+
+-- a file is refused for a fault of its text
+pub told-text : (n : List ℕ) (told : Option (List ℕ → Option (List ℕ))) (f : MmFault) → EndsBy (told_input n told) (Refused f) → IsTextFault f
+told-text n None f e = e
+told-text n (Some files) f e = opened-text n (files n) f e

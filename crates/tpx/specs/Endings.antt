@@ -1,6 +1,7 @@
 -- How a command ends: its status, its message, and what the input says of it.
 use Rattle.std.specs.Prelude.{◌≡◌, ℕ, Bool, true, false, List, [], map}
 use Rattle.scalar_laws.specs.Weighed.{weighed_semiring, weighed_forms}
+use Rattle.mm_text.specs.Outcomes.{IsTextFault}
 use Rattle.mm_text.specs.Reading.{File}
 use Rattle.mm_text.specs.declared.shown.Shown.{Shown}
 use Rattle.tables.specs.Tables.{cells_of}
@@ -55,6 +56,7 @@ EndsShown file _ = ⊥
 -- an ending of a command
 abbrev pub EndsCommand : Ending → Type 0
 EndsCommand NoCommand = ⊥
+EndsCommand (Refused fault) = IsTextFault fault
 EndsCommand _ = Unit {0}
 
 -- an ending that comes with this input

@@ -2,6 +2,7 @@
 use Rattle.std.specs.Prelude.{◌≡◌}
 use Rattle.mm_text.specs.declared.fault.MmFault.{MmFault}
 use Rattle.mm_text.specs.declared.fault.MmFault.TheVariants.{ReadFault, NoMem}
+use Rattle.mm_text.specs.Outcomes.{IsTextFault}
 use Rattle.mm_text.specs.Reading.{File}
 use Rattle.tpx.specs.declared.ending.Ending.{Ending}
 use Rattle.tpx.specs.declared.ending.Ending.TheVariants.{Memory, Unread, Refused}
@@ -24,6 +25,6 @@ abbrev pub EndsReading : Input → Ending → Type 0
 EndsReading no_command e = ⊥
 EndsReading i Memory = Unit {0}
 EndsReading i Unread = Unit {0}
-EndsReading not_told (Refused fault) = Unit {0}
+EndsReading not_told (Refused fault) = IsTextFault fault
 EndsReading (refused name told) (Refused fault) = fault ≡ told
 EndsReading _ _ = ⊥

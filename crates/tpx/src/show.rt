@@ -40,6 +40,8 @@ fn read_file<F: Files>(alloc: Global, files: &mut F, name: &str) -> Result<FileD
     ensures accepted { IfOk result (λ found. IsAccepted (told_input name.now (F.told files.old)) (file_of found)) }
     ensures sound { IfOk result (λ found. IsSound Coordinate most_entries most_rows (file_of found)) }
     ensures ends { IfErr result (EndsReading (told_input name.now (F.told files.old))) }
+    ensures same_files { F.told files.new ≡ F.told files.old }
+    ensures never_falls { (n : List ℕ) → F.faults files.old n ≤ F.faults files.new n }
     ensures unread { IfErr result (λ ending. ending ≡ Ending.Unread
         → Rose (F.faults files.old name.now) (F.faults files.new name.now)) }
     ensures no_fault { OnOk result ((n : List ℕ) → F.faults files.new n ≡ F.faults files.old n) }
@@ -105,6 +107,8 @@ pub fn show<F: Files, O: Sink>(
     requires from { 1 ≤ ranks }
     requires to { ranks ≤ 32 }
     ensures ends { EndsBy (told_input name.now (F.told files.old)) result }
+    ensures same_files { F.told files.new ≡ F.told files.old }
+    ensures never_falls { (n : List ℕ) → F.faults files.old n ≤ F.faults files.new n }
     ensures unread { result ≡ Ending.Unread → Rose (F.faults files.old name.now) (F.faults files.new name.now) }
     ensures unwritten { result ≡ Ending.Unwritten → Rose (O.faults out.old) (O.faults out.new) }
     ensures written { result ≡ Ending.Written

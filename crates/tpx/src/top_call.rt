@@ -1,9 +1,10 @@
 //! The top call: one command of the program.
-ghost use Rattle.std.specs.Prelude.{◌≡◌, ◌⊎◌, ◌↔◌, ℕ, true, false, List, None, Some};
+ghost use Rattle.std.specs.Prelude.{◌≡◌, ◌≤◌, ◌⊎◌, ◌↔◌, ℕ, true, false, List, None, Some};
 ghost use Rattle.outside.specs.declared.name.Name.{Name};
 ghost use Rattle.outside.specs.Bytes.{with_bytes};
 ghost use Rattle.outside.specs.Faults.{Rose};
 ghost use Rattle.mm_text.specs.declared.fault.MmFault.{MmFault};
+ghost use Rattle.mm_text.specs.Outcomes.{IsTextFault};
 ghost use Rattle.mm_text.specs.Reading.{File};
 ghost use Rattle.mm_text.specs.Taken.{TakesPrefix};
 ghost use Rattle.tpx.specs.declared.ending.Ending.{Ending};
@@ -25,7 +26,8 @@ use std::alloc::Global;
 ///
 /// `show RANKS FILE` reads FILE as a coordinate file of the NIST Matrix Market exchange formats, deals its entries to
 /// RANKS ranks (1 to 32), brings each row to its owner in the contiguous uniform map (`Tpetra::Map`), adds what names
-/// one place, and writes the matrix to `out` as coordinate text, its places by row and then column, counted from 1.
+/// one place, and writes the matrix to `out` as coordinate text, its places by row and then column, counted from 1. That
+/// ranks do this no clause says: their number changes nothing in the text.
 ///
 /// | status | comes |
 /// |---|---|
@@ -34,11 +36,11 @@ use std::alloc::Global;
 /// | 2 | exactly where the words are no command |
 /// | 3 | only where the count of faults of the file rose; so it does where no file has the name |
 /// | 4 | only where the count of faults of `out` rose; `out` then has a prefix of the text added |
-/// | 5 | exactly where the text of the file is refused |
-/// | 7 | exactly where the file is accepted and at some place the magnitudes that are added exceed 2^127 - 1 |
+/// | 5 | where 3 and 1 do not come, exactly where the text of the file is refused |
+/// | 7 | likewise, exactly where the file is accepted and at some place the magnitudes added exceed 2^127 - 1 |
 ///
 /// For each status but 0 and 4 `out` stays as it was, and for each status but 0 `err` has one line added, or a prefix
-/// of it where `err` fails, which changes no status. Nothing is posted on the wire.
+/// of it where `err` fails; the status does not depend on that. Nothing is posted on the wire.
 pub fn top<F: Files, W: Wire, O: Sink, E: Sink>(
     alloc: Global,
     words: &[String],
@@ -64,7 +66,9 @@ pub fn top<F: Files, W: Wire, O: Sink, E: Sink>(
     ensures complete { (name : List ℕ) (file : File) → input_of words.now (F.told files.old) ≡ shows name file
         → is_over file ≡ false → (result ≡ 0) ⊎ (result ≡ 4) ⊎ (result ≡ 3) ⊎ (result ≡ 1) }
 
-    // The faults of the outside.
+    // The files stay, and the faults of the outside.
+    ensures same_files { F.told files.new ≡ F.told files.old }
+    ensures never_falls { (name : List ℕ) → F.faults files.old name ≤ F.faults files.new name }
     ensures unread { result ≡ 3
         → (ranks : ℕ) (name : List ℕ) → command_of words.now ≡ Some (show_command ranks name)
         → Rose (F.faults files.old name) (F.faults files.new name) }
@@ -96,7 +100,8 @@ pub fn top<F: Files, W: Wire, O: Sink, E: Sink>(
         → Says E.told E.faults err.old err.new (refused_message name fault) }
     ensures some_refusal { result ≡ 5
         → (ranks : ℕ) (name : List ℕ) → command_of words.now ≡ Some (show_command ranks name)
-        → (fault : MmFault) × Says E.told E.faults err.old err.new (refused_message name fault) }
+        → (fault : MmFault) × IsTextFault fault
+        × Says E.told E.faults err.old err.new (refused_message name fault) }
     ensures overflow_message { result ≡ 7 → Says E.told E.faults err.old err.new overflow_message }
 {
     let _nothing_is_posted = wire;

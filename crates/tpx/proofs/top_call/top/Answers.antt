@@ -3,9 +3,9 @@ use Rattle.tpx.specs.declared.ending.Ending.{Ending}
 use Rattle.tpx.specs.declared.ending.Ending.TheVariants.{NoCommand}
 use Rattle.tpx.specs.Causes.{MayBeRefused, MayBeShown, MayOverflow, Says}
 use Rattle.tpx.specs.Endings.{EndsBy, message_of}
-use Rattle.tpx.specs.Input.{Input}
+use Rattle.tpx.specs.Input.{Input, told_input}
 use Rattle.tpx.specs.Messages.{unread_message, refused_message}
-use Rattle.tpx.proofs.Inputs.{at_command, nothing_shown, nothing_refused, told-command, told-name, refused-fault, unread-ending, written-ending, unwritten-ending, same_command, refused-ending}
+use Rattle.tpx.proofs.Inputs.{at_command, nothing_shown, nothing_refused, told-command, told-name, refused-fault, unread-ending, written-ending, unwritten-ending, same_command, refused-ending, told-text}
 use Rattle.tpx.proofs.Statuses.{refused-only, overflow-only, shown-only, overflow-status, complete-status}
 use Rattle.tpx.proofs.top_call.top.Goals as goal
 
@@ -83,6 +83,8 @@ pub returns-clause-some_refusal : goal.returns-clause-some_refusal
 returns-clause-some_refusal g c = λ five ranks name e.
     let refusal = refused-ending c.show-ending.result c.report-2.result c.report-2.ensures.status five in (
       refusal.0,
+      told-text c.in-Some.command.file.now (g.F.Files.told c.args.files.now) refusal.0
+          (subst (λ (x : Ending). EndsBy (told_input c.in-Some.command.file.now (g.F.Files.told c.args.files.now)) x) refusal.1 c.show-ending.ensures.ends),
       subst (λ (t : List ℕ). Says g.E.Sink.told g.E.Sink.faults c.args.err.now c.report-2.new.err t)
           (ap (λ (x : Ending). message_of c.in-Some.command.file.now x) refusal.1
           ∙ ap (λ (n : List ℕ). refused_message n refusal.0) (same_command _ _ ranks _ name c.in-Some.ensures.asked e))
