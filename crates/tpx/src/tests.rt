@@ -311,11 +311,17 @@ fn long_lines_are_read(rt: HostRuntime) -> Result<(), Fail> {
     Ok(())
 }
 
-/// Runs `show` over one file, with standard error as it is given and this much room for the output.
-fn show_with(alloc: Global, text: &[u8], room: u64, mut err: MemSink) -> Result<Ran, AllocError> {
+/// Runs these words over one file, with standard error as it is given and this much room for the output.
+fn run_with(
+    alloc: Global,
+    texts: &[&str],
+    text: &[u8],
+    room: u64,
+    mut err: MemSink,
+) -> Result<Ran, AllocError> {
     let mut files = MemFiles::new(alloc);
     files.put("a.mtx", text)?;
-    let words = words(alloc, &["show", "2", "a.mtx"])?;
+    let words = words(alloc, texts)?;
     let mut wire = MailRoom::new(alloc);
     let mut out = MemSink::new(alloc, room)?;
     let status = top(alloc, &words, &mut files, &mut wire, &mut out, &mut err);
@@ -325,26 +331,27 @@ fn show_with(alloc: Global, text: &[u8], room: u64, mut err: MemSink) -> Result<
 #[test]
 fn a_failing_standard_error_changes_no_status(rt: HostRuntime) -> Result<(), Fail> {
     let alloc = rt.alloc();
-    let over = format!(in alloc;
-        "{BANNER}1 1 1\n1 1 170141183460469231731687303715884105727\n1 1 1\n"
-    )?;
-    let over = over.as_str().as_bytes();
+    let extra = format!(in alloc; "{BANNER}1 1 1\n1 1 5\n1 1 1\n")?;
     let twice = format!(in alloc;
         "{BANNER}1 1 2\n1 1 170141183460469231731687303715884105727\n1 1 1\n"
     )?;
-    let runs: [(&[u8], u64, u8); 4] = [
-        (A.as_bytes(), 1000, 0),
-        (A.as_bytes(), 60, 4),
-        (over, 1000, 5),
-        (twice.as_bytes(), 1000, 7),
+    let whole = A.as_bytes();
+    let runs: [(&str, &str, &[u8], u64, u8); 6] = [
+        ("2", "a.mtx", whole, 1000, 0),
+        ("0", "a.mtx", whole, 1000, 2),
+        ("2", "none.mtx", whole, 1000, 3),
+        ("2", "a.mtx", whole, 60, 4),
+        ("2", "a.mtx", extra.as_bytes(), 1000, 5),
+        ("2", "a.mtx", twice.as_bytes(), 1000, 7),
     ];
-    for (text, room, status) in runs {
+    for (ranks, file, text, room, status) in runs {
         let mut failing = MemSink::new(alloc, 1000)?;
         failing.fail_at(&[0])?;
-        let ran = show_with(alloc, text, room, failing)?;
+        let ran = run_with(alloc, &["show", ranks, file], text, room, failing)?;
         assert_eq!(rt; ran.status, status);
         assert_eq!(rt; ran.err.bytes(), b"".as_slice());
-        let ran = show_with(alloc, text, room, MemSink::new(alloc, 5)?)?;
+        let full = MemSink::new(alloc, 5)?;
+        let ran = run_with(alloc, &["show", ranks, file], text, room, full)?;
         assert_eq!(rt; ran.status, status);
         let prefix = if status == 0 {
             b"".as_slice()
