@@ -2,6 +2,7 @@
 ghost use Rattle.std.specs.Prelude.{◌≡◌, ◌<◌, ◌≤◌, ◌↔◌, ℕ, true, false, length, IsSome, None, Some};
 ghost use Rattle.std.specs.List.{concat, range_with_len};
 ghost use Rattle.map_core.specs.Layouts.{stands, local_index, global_index, rank_list, owner, Layout, IsLayout, IsOneToOne, IsTotal};
+ghost use Rattle.map_core.specs.Plans.{reversed, PlanLists};
 ghost use Rattle.map_core.specs.Uniform.{uniform_count, uniform_layout};
 
 use crate::{Gid, LocalMap};
@@ -50,4 +51,9 @@ pub fn uniform_order_law(ranks: u32, size: Gid)
         → owner (uniform_layout ranks size) j ≡ Some q → p ≤ q }
     ensures below { (i p : ℕ) → owner (uniform_layout ranks size) i ≡ Some p → p < ranks }
     ensures owned { (i : ℕ) → i < size → IsSome (owner (uniform_layout ranks size) i) }
+{}
+
+/// The plan of the way back from the way back is the plan itself.
+pub fn plan_reverse_law()
+    ensures twice { (p : PlanLists) → reversed (reversed p) ≡ p }
 {}

@@ -4,6 +4,9 @@
 //! local index. A `Layout` has the lists of all ranks. Contracts see a `LocalMap` as its list, and a `Layout` as its
 //! size and its lists. Of a contiguous uniform layout the owner of an index is known by arithmetic alone.
 //!
+//! A `Plan` is what one rank sends, receives and copies in a transfer from a source to a target, as `Tpetra::Import` and
+//! `Tpetra::Export` keep it; contracts see its lists of local indices.
+//!
 //! It stands on `indexmap`, which keeps the indices. All that speaks of the indices of a rank stands on it.
 #![tactic(auto)]
 
@@ -11,6 +14,7 @@ mod faults;
 pub mod laws;
 mod layout;
 mod local_map;
+mod plan;
 #[cfg(test)]
 mod tests;
 mod uniform;
@@ -18,6 +22,7 @@ mod uniform;
 pub use faults::ListFault;
 pub use layout::Layout;
 pub use local_map::LocalMap;
+pub use plan::Plan;
 pub use uniform::uniform_owner;
 
 /// A global index, counted from 0.
