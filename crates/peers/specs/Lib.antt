@@ -1,0 +1,3 @@
+pub mod Protocols
+pub mod Peers
+pub mod Runs
