@@ -1,0 +1,4 @@
+pub mod Combining
+pub mod Picks
+pub mod Arrivals
+pub mod Examples
