@@ -11,7 +11,7 @@ use Rattle.std.proofs.lemmas.List.Concat.{flat_map-append}
 use Rattle.std.proofs.lemmas.List.Sorted.{IsPermutation-trans, IsPermutation-append_left}
 use Rattle.tables.proofs.Counting.{count_from-append}
 use Rattle.scalar_laws.specs.Semiring.{Semiring, IsSemiring}
-use Rattle.scalar_laws.specs.Forms.{Forms}
+use Rattle.scalar_laws.specs.Conversions.{Conversions}
 use Rattle.tables.specs.declared.Cell.{Cell}
 use Rattle.tables.specs.Indices.{count_from, dealt, dealt_from}
 use Rattle.tables.specs.Tables.{found, cells_of}
@@ -45,7 +45,7 @@ list_all-flat_map p places (x ∷ xs) h =
 abbrev pub is_within : ℕ → ℕ → ℕ → ℕ → Bool
 is_within rows cols i j = ltb i rows && ltb j cols
 
-module _ {S : Type 0} (R : Semiring S) (F : Forms S) where
+module _ {S : Type 0} (R : Semiring S) (F : Conversions S) where
   mirrored_within : (rows cols : ℕ) (l : Line) (v : ℤ) → l.row < rows → l.col < cols → rows ≡ cols → all_places (is_within rows cols) (map (number_cell R F) (mirrored_cells l v)) ≡ true
   mirrored_within rows cols l v p q same = go (l.row == l.col)
     where
@@ -70,7 +70,7 @@ module _ {S : Type 0} (R : Semiring S) (F : Forms S) where
 abbrev pub dealt_cells : {A X : Type 0} → (A → List X) → ℕ → ℕ → List A → List X
 dealt_cells places P count lines = flat_map (λ r. flat_map places (dealt P r lines)) (count_from 0 count)
 
-module _ {S : Type 0} {R : Semiring S} (L : IsSemiring R) (F : Forms S) where
+module _ {S : Type 0} {R : Semiring S} (L : IsSemiring R) (F : Conversions S) where
   pub sums_are_cells : (rows cols P : ℕ) (mirror : Mirror) (lines : List Line) (all sums : List (Cell S)) → 0 < P
       → All (λ l. (l.row < rows) × (l.col < cols)) lines → (mirror ≢ Plain → rows ≡ cols)
       → IsPermutation (dealt_cells (entry_numbers R F mirror) P P lines) all → AreSums R all sums

@@ -14,14 +14,14 @@ use std::alloc::{AllocError, Global};
 
 /// The number of an integer of a file; zero where the kind has none for it.
 fn number<S: Scalar>(value: i128) -> S
-    ensures { result ≡ number_of S.semiring S.forms value }
+    ensures { result ≡ number_of S.semiring S.conversions value }
 {
     S::of_file(value).unwrap_or(S::zero())
 }
 
 /// The cell of an entry's own place.
 fn own_cell<S: Scalar>(line: &Line) -> Cell<S>
-    ensures { result ≡ number_cell S.semiring S.forms (own_place line.now) }
+    ensures { result ≡ number_cell S.semiring S.conversions (own_place line.now) }
 {
     Cell {
         row: line.row,
@@ -33,8 +33,8 @@ fn own_cell<S: Scalar>(line: &Line) -> Cell<S>
 /// The cell of the mirrored place: None on the diagonal, and in a file without symmetry.
 fn mirrored_cell<S: Scalar>(mirror: Mirror, line: &Line) -> Option<Cell<S>>
     requires { unsigned_abs line.now.value ≤ widest }
-    ensures { entry_numbers S.semiring S.forms mirror line.now
-        ≡ number_cell S.semiring S.forms (own_place line.now) ∷ option_to_list result }
+    ensures { entry_numbers S.semiring S.conversions mirror line.now
+        ≡ number_cell S.semiring S.conversions (own_place line.now) ∷ option_to_list result }
 {
     if line.row == line.col {
         return None;
@@ -100,7 +100,7 @@ fn send_entry<S: Scalar>(
     requires square { mirror ≢ Mirror.Plain → line.now.col < rows }
     requires value { unsigned_abs line.now.value ≤ widest }
     requires owned { AreOwned ranks rows blocks.old }
-    ensures cells { let brought = entry_numbers S.semiring S.forms mirror line.now in
+    ensures cells { let brought = entry_numbers S.semiring S.conversions mirror line.now in
         OnOk result (IsPermutation (cells_in blocks.old ++ brought) (cells_in blocks.new)) }
     ensures owned { OnOk result (AreOwned ranks rows blocks.new) }
 {
@@ -126,7 +126,7 @@ pub fn send_dealt<S: Scalar>(
     requires values { All (λ line. unsigned_abs line.value ≤ widest) «data».now.lines.items }
     requires square { «data».now.mirror ≢ Mirror.Plain → «data».now.rows ≡ «data».now.cols }
     requires owned { AreOwned ranks «data».now.rows blocks.old }
-    ensures cells { let places = entry_numbers S.semiring S.forms «data».now.mirror in
+    ensures cells { let places = entry_numbers S.semiring S.conversions «data».now.mirror in
         let brought = flat_map places (dealt ranks rank «data».now.lines.items) in
         OnOk result (IsPermutation (cells_in blocks.old ++ brought) (cells_in blocks.new)) }
     ensures owned { OnOk result (AreOwned ranks «data».now.rows blocks.new) }

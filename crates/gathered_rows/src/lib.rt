@@ -44,7 +44,7 @@ pub fn gathered_cells<S: Scalar>(
     requires places { All (λ line. (line.row < «data».now.rows) × (line.col < «data».now.cols)) «data».now.lines.items }
     requires values { All (λ line. unsigned_abs line.value ≤ widest) «data».now.lines.items }
     requires square { «data».now.mirror ≢ Mirror.Plain → «data».now.rows ≡ «data».now.cols }
-    ensures cells { let matrix = file_matrix S.semiring S.forms «data».now.mirror «data».now.lines.items in
+    ensures cells { let matrix = file_matrix S.semiring S.conversions «data».now.mirror «data».now.lines.items in
         IfOk result (λ cells. cells.items ≡ cells_of «data».now.rows «data».now.cols matrix) }
 {
     let mut blocks = new_blocks(alloc, ranks)?;

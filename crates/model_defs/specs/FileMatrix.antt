@@ -4,7 +4,7 @@ use Rattle.std.specs.Prelude.{◌==◌, ℕ, ℤ, neg_ℤ, List, [], ◌∷◌, 
 use Rattle.std.specs.List.{flat_map}
 use Rattle.std.specs.Option.{unwrap_or}
 use Rattle.scalar_laws.specs.Semiring.{Semiring}
-use Rattle.scalar_laws.specs.Forms.{Forms}
+use Rattle.scalar_laws.specs.Conversions.{Conversions}
 use Rattle.tables.specs.declared.Cell.{Cell}
 use Rattle.tables.specs.Tables.{Table, table_of}
 use Rattle.tables.specs.Indices.{dealt}
@@ -27,20 +27,20 @@ entry_cells Same l = own_cell l ∷ mirrored_cells l l.value
 entry_cells Negated l = own_cell l ∷ mirrored_cells l (neg_ℤ l.value)
 
 -- the number of an integer
-abbrev pub number_of : {S : Type 0} → Semiring S → Forms S → ℤ → S
+abbrev pub number_of : {S : Type 0} → Semiring S → Conversions S → ℤ → S
 number_of R F v = unwrap_or (F.of_file v) R.nought
 
-abbrev pub number_cell : {S : Type 0} → Semiring S → Forms S → Cell ℤ → Cell S
+abbrev pub number_cell : {S : Type 0} → Semiring S → Conversions S → Cell ℤ → Cell S
 number_cell R F c = record { row = c.row; col = c.col; value = number_of R F c.value }
 
 -- the cells of an entry as numbers
-abbrev pub entry_numbers : {S : Type 0} → Semiring S → Forms S → Mirror → Line → List (Cell S)
+abbrev pub entry_numbers : {S : Type 0} → Semiring S → Conversions S → Mirror → Line → List (Cell S)
 entry_numbers R F mirror l = map (number_cell R F) (entry_cells mirror l)
 
 -- the matrix of a file: at each place that is named the sum over the entries that name it, also where it is zero
-abbrev pub file_matrix : {S : Type 0} → Semiring S → Forms S → Mirror → List Line → Table S
+abbrev pub file_matrix : {S : Type 0} → Semiring S → Conversions S → Mirror → List Line → Table S
 file_matrix R F mirror lines = table_of R (flat_map (entry_numbers R F mirror) lines)
 
 -- the part of it that is dealt to rank r of P: the entries k, from 0 in file order, with k mod P = r
-abbrev pub dealt_matrix : {S : Type 0} → Semiring S → Forms S → Mirror → ℕ → ℕ → List Line → Table S
+abbrev pub dealt_matrix : {S : Type 0} → Semiring S → Conversions S → Mirror → ℕ → ℕ → List Line → Table S
 dealt_matrix R F mirror P r lines = file_matrix R F mirror (dealt P r lines)

@@ -1,5 +1,5 @@
 pub mod Semiring
-pub mod Forms
+pub mod Conversions
 pub mod Number
 pub mod Integers
 pub mod NumberLaws

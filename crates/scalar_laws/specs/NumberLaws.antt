@@ -76,6 +76,19 @@ plus_zero (number v w) h =
 
 -- ---- products
 
+-- products with nought
+zero_mul : (z : ℤ) → pos 0 *ℤ z ≡ pos 0
+zero_mul z = omega (arith, ints)
+
+mul_zero : (z : ℤ) → z *ℤ pos 0 ≡ pos 0
+mul_zero z = omega (arith, ints)
+
+zero_nat : (n : ℕ) → 0 * n ≡ 0
+zero_nat n = omega arith
+
+nat_zero : (n : ℕ) → n * 0 ≡ 0
+nat_zero n = omega arith
+
 -- Over times a number of this weight
 abbrev over_times : ℕ → Number
 over_times y = if y == 0 then zero_number else over
@@ -113,12 +126,6 @@ times_comm (number v w) (number x y) = λ i. made (mul_comm v x i) (nat_comm w y
 times_made : (v : ℤ) (w : ℕ) (x : ℤ) (y : ℕ) → unsigned_abs x ≤ y → times (made v w) (number x y) ≡ made (v *ℤ x) (w * y)
 times_made v w x y within = by (nat_le w max_weight) refl
   where
-    mul_zero : (z : ℤ) → z *ℤ pos 0 ≡ pos 0
-    mul_zero z = omega (arith, ints)
-
-    nat_zero : (n : ℕ) → n * 0 ≡ 0
-    nat_zero n = omega arith
-
     by : (b : Bool) → nat_le w max_weight ≡ b → times (cond b (number v w) over) (number x y) ≡ made (v *ℤ x) (w * y)
     by true e = refl
     by false e =
@@ -144,12 +151,6 @@ over_made x y = by (nat_le y max_weight) refl
 pub times_made_both : (v x : ℤ) (w y : ℕ) → unsigned_abs v ≤ w → unsigned_abs x ≤ y → times (made v w) (made x y) ≡ made (v *ℤ x) (w * y)
 times_made_both v x w y within_w within_y = by (nat_le y max_weight) refl
   where
-    zero_mul : (z : ℤ) → pos 0 *ℤ z ≡ pos 0
-    zero_mul z = omega (arith, ints)
-
-    zero_nat : (n : ℕ) → 0 * n ≡ 0
-    zero_nat n = omega arith
-
     by : (b : Bool) → nat_le y max_weight ≡ b → times (made v w) (cond b (number x y) over) ≡ made (v *ℤ x) (w * y)
     by true e = times_made v w x y within_y
     by false e =
@@ -178,15 +179,6 @@ over_times_number w z t within =
             | inr more ↦ over_some t more ∙ sym (over_some (w * t) (let grows : w ≤ w * t = product_grows w t more in omega arith))
           ]
     ]
-  where
-    zero_mul : (z : ℤ) → pos 0 *ℤ z ≡ pos 0
-    zero_mul z = omega (arith, ints)
-
-    zero_nat : (n : ℕ) → 0 * n ≡ 0
-    zero_nat n = omega arith
-
-    nat_zero : (n : ℕ) → n * 0 ≡ 0
-    nat_zero n = omega arith
 
 over_times_over : (w : ℕ) → times (over_times w) over ≡ over_times w
 over_times_over w = by (w == 0)
@@ -224,12 +216,6 @@ times_assoc (number v w) (number x y) (number z t) ha hb hc =
 pub times_zero : (a : Number) → is_number a ≡ true → times zero_number a ≡ zero_number
 times_zero over h = refl
 times_zero (number v w) h = (λ i. made (zero_mul v i) (zero_nat w i))
-  where
-    zero_mul : (z : ℤ) → pos 0 *ℤ z ≡ pos 0
-    zero_mul z = omega (arith, ints)
-
-    zero_nat : (n : ℕ) → 0 * n ≡ 0
-    zero_nat n = omega arith
 
 pub times_one : (a : Number) → is_number a ≡ true → times one_number a ≡ a
 times_one over h = refl

@@ -2,7 +2,7 @@
 use Rattle.std.specs.Prelude.{ℕ, ◌+◌, ◌*◌, ◌%◌, ◌≤◌, ◌++◌, pos, false, max, Some, take, replicate, unsigned_abs}
 use Rattle.std.specs.Int.{w64, int_rem_euclid, to_le_bytes, from_le_bytes}
 use Rattle.scalar_laws.specs.Semiring.{Semiring}
-use Rattle.scalar_laws.specs.Forms.{Forms}
+use Rattle.scalar_laws.specs.Conversions.{Conversions}
 use Rattle.scalar_laws.specs.Remainders.{remainder_below}
 use Rattle.scalar_laws.specs.declared.modulus.Modulus.{Ghosts}
 use Rattle.scalar_laws.specs.declared.residue.Residue.{Residue}
@@ -18,8 +18,8 @@ modular_semiring value make = record {
 }
 
 -- it is never over, and is shown and written as the natural; an integer of a file is reduced to the natural below m
-abbrev pub modular_forms : {S : Type 0} → ℕ → (S → ℕ) → (ℕ → S) → Forms S
-modular_forms m value make = record {
+abbrev pub modular_conversions : {S : Type 0} → ℕ → (S → ℕ) → (ℕ → S) → Conversions S
+modular_conversions m value make = record {
   of_file = λ v. Some (make (unsigned_abs (int_rem_euclid v (pos m))));
   is_over = λ _. false;
   shown = λ a. Some (pos (value a));
@@ -37,5 +37,5 @@ residue {g = g} some n = record { value = n % g.VALUE; modulus = record {}; belo
 abbrev pub residue_semiring : {M : Type 0} {g : Ghosts M} {h : _} → 2 ≤ g.VALUE → Semiring (Residue M g h)
 residue_semiring some = modular_semiring value_of (residue some)
 
-abbrev pub residue_forms : {M : Type 0} {g : Ghosts M} {h : _} → 2 ≤ g.VALUE → Forms (Residue M g h)
-residue_forms {g = g} some = modular_forms g.VALUE value_of (residue some)
+abbrev pub residue_conversions : {M : Type 0} {g : Ghosts M} {h : _} → 2 ≤ g.VALUE → Conversions (Residue M g h)
+residue_conversions {g = g} some = modular_conversions g.VALUE value_of (residue some)

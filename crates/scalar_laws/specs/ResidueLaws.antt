@@ -8,10 +8,10 @@ use Rattle.std.specs.Int.{w64, to_le_bytes, from_le_bytes}
 use mathlib.Core.HLevel.{is_prop→PathP}
 use denote.Struct.Props.{props}
 use Rattle.scalar_laws.specs.Semiring.{IsSemiring}
-use Rattle.scalar_laws.specs.Forms.{IsForms}
+use Rattle.scalar_laws.specs.Conversions.{AreConversions}
 use Rattle.scalar_laws.specs.Remainders.{remainder_kept, remainder_first, remainder_second}
 use Rattle.scalar_laws.specs.Words.{bytes_below}
-use Rattle.scalar_laws.specs.Residue.{modular_semiring, value_of, residue, residue_semiring, residue_forms}
+use Rattle.scalar_laws.specs.Residue.{modular_semiring, value_of, residue, residue_semiring, residue_conversions}
 use Rattle.scalar_laws.specs.declared.modulus.Modulus.{Ghosts}
 use Rattle.scalar_laws.specs.declared.residue.Residue.{Residue}
 
@@ -66,13 +66,13 @@ residue_laws {M = M} {g = g} {h = h} some =
 pub residue_equal : {M : Type 0} {g : Ghosts M} {h : _} (a b : Residue M g h) → ((a.value == b.value) && true) ≡ true → a ≡ b
 residue_equal a b e = same_residue a b (eqb-true a.value b.value (and_parts (a.value == b.value) true e).0)
 
--- ---- the forms
+-- ---- the conversions
 
 word_kept : (v m : ℕ) → v < m → m ≤ 2 ^ 63 → from_le_bytes w64 (to_le_bytes w64 v) % m ≡ v
 word_kept v m h many = ap (λ n. n % m) (from_le_bytes-to_le_bytes_8 v (omega arith)) ∙ remainder_kept v m h
 
-pub residue_form_laws : {M : Type 0} {g : Ghosts M} {h : _} (some : 2 ≤ g.VALUE) → g.VALUE ≤ 2 ^ 63 → IsForms (residue_forms {M = M} {g = g} {h = h} some)
-residue_form_laws {g = g} some many =
+pub residue_conversion_laws : {M : Type 0} {g : Ghosts M} {h : _} (some : 2 ≤ g.VALUE) → g.VALUE ≤ 2 ^ 63 → AreConversions (residue_conversions {M = M} {g = g} {h = h} some)
+residue_conversion_laws {g = g} some many =
     record {
       shown_over = λ a. refl;
       wire_back = λ a. same_residue _ a (word_kept a.value g.VALUE a.below many);

@@ -1,7 +1,7 @@
--- A weighed number of the code as one over unbounded integers, and back. Its operations and its forms are those of numbers.
+-- A weighed number of the code as one over unbounded integers, and back. Its operations and its conversions are those of numbers.
 use Rattle.std.specs.Prelude.{◌≡◌, ℕ, ℤ, pos, Bool, true, false, Option, Some, None, refl}
 use Rattle.scalar_laws.specs.Semiring.{Semiring}
-use Rattle.scalar_laws.specs.Forms.{Forms}
+use Rattle.scalar_laws.specs.Conversions.{Conversions}
 use Rattle.scalar_laws.specs.Number.{Number, number, over, made, zero_number, one_number, plus, times, top, file_number, is_over_number, shown_number, number_bytes, number_of_bytes, over_weight}
 use Rattle.scalar_laws.specs.Stored.{is_stored}
 use Rattle.scalar_laws.specs.declared.weighed.Weighed.{Weighed}
@@ -36,8 +36,8 @@ weighed_semiring = record {
 }
 
 -- how it is read, shown and written
-abbrev pub weighed_forms : Forms Weighed
-weighed_forms = record {
+abbrev pub weighed_conversions : Conversions Weighed
+weighed_conversions = record {
   of_file = λ v. stored_option (file_number v);
   is_over = λ a. is_over_number (num_of a);
   shown = λ a. shown_number (num_of a);

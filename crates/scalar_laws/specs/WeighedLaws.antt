@@ -10,12 +10,12 @@ use mir.Syntax.{w128}
 use mathlib.Core.Bool.{Bool-set}
 use mathlib.Core.HLevel.{is_prop→PathP}
 use Rattle.scalar_laws.specs.Semiring.{IsSemiring}
-use Rattle.scalar_laws.specs.Forms.{IsForms}
+use Rattle.scalar_laws.specs.Conversions.{AreConversions}
 use Rattle.scalar_laws.specs.Words.{word_back, bytes_below}
 use Rattle.scalar_laws.specs.Number.{Number, number, over, made, max_weight, is_number, is_weighed, over_weight, plus, times, top, num, new_number, file_number, is_over_number, shown_number, pair_bytes, number_bytes, number_of_bytes}
 use Rattle.scalar_laws.specs.NumberLaws.{made_low, weight_parts, plus_comm, plus_assoc, plus_zero, times_comm, times_assoc, times_one, times_zero, distributes, top_comm, top_assoc, is_number-plus, is_number-times, is_number-top}
 use Rattle.scalar_laws.specs.Stored.{is_stored}
-use Rattle.scalar_laws.specs.Weighed.{num_of, stored, stored_if, over_stored, stored_option, weighed_semiring, weighed_forms}
+use Rattle.scalar_laws.specs.Weighed.{num_of, stored, stored_if, over_stored, stored_option, weighed_semiring, weighed_conversions}
 use Rattle.scalar_laws.specs.declared.weighed.Weighed.{Weighed}
 
 -- ---- what is stored stands for its number
@@ -115,7 +115,7 @@ weighed_equal a b h =
     let value : a.value ≡ b.value = grind (arith, nat_tests) in
     same_weighed a b value (eqb-true a.weight b.weight both.1)
 
--- ---- the forms
+-- ---- the conversions
 
 pub stored_some : (a : Weighed) (v : ℤ) → unsigned_abs v ≤ max_weight → num_of a ≡ new_number v (unsigned_abs v) → Some a ≡ stored_option (file_number v)
 stored_some a v low e =
@@ -156,8 +156,8 @@ number_bytes_below : (n : Number) → All (λ b. b < 256) (number_bytes n)
 number_bytes_below over = pair_bytes_below (pos 0) over_weight
 number_bytes_below (number v w) = pair_bytes_below v w
 
-pub weighed_form_laws : IsForms weighed_forms
-weighed_form_laws = record {
+pub weighed_conversion_laws : AreConversions weighed_conversions
+weighed_conversion_laws = record {
   shown_over = λ a. shown_over (num_of a);
   wire_back = λ a. ap stored (number_back (num_of a) (is_number-num_of a)) ∙ stored-num_of a;
   wire_length = λ a. number_length (num_of a);

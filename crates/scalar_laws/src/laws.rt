@@ -1,7 +1,7 @@
 //! Theorems over the definitions, each the contract of a function that does nothing.
 ghost use Rattle.std.specs.Prelude.{◌≡◌, ◌≤◌, ◌<◌, ◌*◌, ◌*ℤ◌, ◌↔◌, ℕ, ℤ, true, IsTrue, List, unsigned_abs};
 ghost use Rattle.scalar_laws.specs.Semiring.{IsSemiring};
-ghost use Rattle.scalar_laws.specs.Forms.{IsForms};
+ghost use Rattle.scalar_laws.specs.Conversions.{AreConversions};
 ghost use Rattle.scalar_laws.specs.Number.{Number, is_number, max_weight, made, is_over_number, zero_number, one_number, plus, times, top};
 ghost use Rattle.scalar_laws.specs.NumberSums.{number_sum, value_sum, weight_sum};
 ghost use Rattle.scalar_laws.specs.Weighed.{num_of, stored, weighed_semiring};
@@ -13,7 +13,7 @@ use crate::Scalar;
 /// is over is not shown, the bytes of a number give it back, and `==` is equality.
 pub fn kind_of_number<S: Scalar>()
     ensures semiring { IsSemiring S.semiring }
-    ensures forms { IsForms S.forms }
+    ensures conversions { AreConversions S.conversions }
     ensures equal { (a b : S) → S.eq a b ≡ true → a ≡ b }
 {}
 

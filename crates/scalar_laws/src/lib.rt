@@ -3,7 +3,7 @@
 //! A kind of number is a commutative semiring (the standard term: two commutative and associative
 //! operations with neutral elements, of which the second distributes over the first) with an
 //! absorbing zero. The records `Semiring` and `IsSemiring` in specs/ have its operations and laws,
-//! `Forms` and `IsForms` how a number is read, shown and written. Generic code takes a `Scalar`.
+//! `Conversions` and `AreConversions` how a number is read, shown and written. Generic code takes a `Scalar`.
 //! `Weighed` and `Residue` are two kinds. The crate stands on std alone, and each crate that has
 //! numbers stands on it.
 #![tactic(auto)]

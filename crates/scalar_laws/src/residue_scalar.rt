@@ -1,13 +1,13 @@
 //! Numbers modulo a number as a kind of number.
-ghost use Rattle.scalar_laws.specs.Residue.{residue_semiring, residue_forms};
-ghost use Rattle.scalar_laws.specs.ResidueLaws.{residue_laws, residue_form_laws, residue_equal};
+ghost use Rattle.scalar_laws.specs.Residue.{residue_semiring, residue_conversions};
+ghost use Rattle.scalar_laws.specs.ResidueLaws.{residue_laws, residue_conversion_laws, residue_equal};
 
 use crate::{Modulus, Residue, Scalar};
 
 impl<M: Modulus> Scalar for Residue<M> {
     ghost semiring = { residue_semiring M.at_least };
 
-    ghost forms = { residue_forms M.at_least };
+    ghost conversions = { residue_conversions M.at_least };
 
     fn zero() -> Residue<M> {
         Residue::new(0)
@@ -62,7 +62,7 @@ impl<M: Modulus> Scalar for Residue<M> {
 
     ghost laws = { residue_laws M.at_least };
 
-    ghost form_laws = { residue_form_laws M.at_least M.at_most };
+    ghost conversion_laws = { residue_conversion_laws M.at_least M.at_most };
 
     ghost equal = { residue_equal };
 }

@@ -1,14 +1,14 @@
 //! What generic code asks of a number.
 ghost use Rattle.std.specs.Prelude.{◌≡◌, true};
 ghost use Rattle.scalar_laws.specs.Semiring.{Semiring, IsSemiring};
-ghost use Rattle.scalar_laws.specs.Forms.{Forms, IsForms};
+ghost use Rattle.scalar_laws.specs.Conversions.{Conversions, AreConversions};
 
 /// A commutative semiring (the standard term) whose elements are read from files, shown, and
 /// written into messages of 32 bytes. No call takes memory.
 pub trait Scalar: Copy + Eq {
     ghost semiring: { Semiring Self };
 
-    ghost forms: { Forms Self };
+    ghost conversions: { Conversions Self };
 
     /// The neutral element of `add`, with which every product is itself.
     fn zero() -> Self
@@ -32,27 +32,27 @@ pub trait Scalar: Copy + Eq {
 
     /// The number of an integer of a file; None where the kind has none for it.
     fn of_file(value: i128) -> Option<Self>
-        ensures { result ≡ forms.of_file value };
+        ensures { result ≡ conversions.of_file value };
 
     /// The 32 bytes that stand for the number in a message.
     fn to_wire(self) -> [u8; 32]
-        ensures { result ≡ forms.to_wire self };
+        ensures { result ≡ conversions.to_wire self };
 
     /// The number of any 32 bytes; those of a number give it back.
     fn of_wire(bytes: [u8; 32]) -> Self
-        ensures { result ≡ forms.of_wire bytes };
+        ensures { result ≡ conversions.of_wire bytes };
 
     /// Whether it is more than the kind can hold.
     fn is_over(self) -> bool
-        ensures { result ≡ forms.is_over self };
+        ensures { result ≡ conversions.is_over self };
 
     /// The integer that is printed; None exactly where `is_over`.
     fn shown(self) -> Option<i128>
-        ensures { result ≡ forms.shown self };
+        ensures { result ≡ conversions.shown self };
 
     ghost laws: { IsSemiring semiring };
 
-    ghost form_laws: { IsForms forms };
+    ghost conversion_laws: { AreConversions conversions };
 
     ghost equal: { (a b : Self) → Self.eq a b ≡ true → a ≡ b };
 }

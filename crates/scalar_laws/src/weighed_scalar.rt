@@ -1,14 +1,14 @@
 //! Weighed numbers as a kind of number.
 ghost use Rattle.std.specs.Prelude.{◌≡◌};
-ghost use Rattle.scalar_laws.specs.Weighed.{weighed_semiring, weighed_forms};
-ghost use Rattle.scalar_laws.specs.WeighedLaws.{weighed_laws, weighed_form_laws, weighed_equal};
+ghost use Rattle.scalar_laws.specs.Weighed.{weighed_semiring, weighed_conversions};
+ghost use Rattle.scalar_laws.specs.WeighedLaws.{weighed_laws, weighed_conversion_laws, weighed_equal};
 
 use crate::{Scalar, Weighed};
 
 impl Scalar for Weighed {
     ghost semiring = { weighed_semiring };
 
-    ghost forms = { weighed_forms };
+    ghost conversions = { weighed_conversions };
 
     fn zero() -> Weighed {
         Weighed::new(0, 0)
@@ -61,7 +61,7 @@ impl Scalar for Weighed {
 
     ghost laws = { weighed_laws };
 
-    ghost form_laws = { weighed_form_laws };
+    ghost conversion_laws = { weighed_conversion_laws };
 
     ghost equal = { weighed_equal };
 }

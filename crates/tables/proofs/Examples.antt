@@ -1,8 +1,8 @@
 -- The definitions computed on small matrices of natural numbers.
-use Rattle.std.proofs.Common.{◌≡◌, ℕ, List, [], ◌∷◌, ◌++◌, refl, ◌+◌, ◌*◌, max, None, Some}
+use Rattle.std.proofs.Common.{◌≡◌, ℕ, List, [], ◌∷◌, ◌++◌, refl, ◌+◌, ◌*◌, max, map, None, Some}
 use Rattle.scalar_laws.specs.Semiring.{Semiring}
 use Rattle.tables.specs.declared.Cell.{Cell}
-use Rattle.tables.specs.Indices.{dealt, each_rank}
+use Rattle.tables.specs.Indices.{count_from, dealt, each_rank}
 use Rattle.tables.specs.Tables.{table_of, found, cells_of, block_cells, sum_of, columns_of}
 
 abbrev numbers : Semiring ℕ
@@ -50,6 +50,10 @@ first_dealt = refl
 
 second_dealt : dealt 2 1 file ≡ c 0 2 5 ∷ c 0 0 2 ∷ []
 second_dealt = refl
+
+-- Of a hundred elements rank 2 of three has 2, 5, 8, .. 98.
+hundred_dealt : dealt 3 2 (count_from 0 100) ≡ map (λ k. 3 * k + 2) (count_from 0 33)
+hundred_dealt = refl
 
 dealt_whole : cells_of 3 3 (sum_of numbers (each_rank 2 (λ r. table_of numbers (dealt 2 r file)))) ≡ cells_of 3 3 (table_of numbers file)
 dealt_whole = refl

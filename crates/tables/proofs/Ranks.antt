@@ -1,5 +1,5 @@
 -- What the ranks have, added up: dealt parts, and the rows of owners.
-use Rattle.std.proofs.Common.{◌≡◌, ℕ, zero, suc, ◌<◌, ◌+◌, ◌%◌, ◌⊎◌, inl, inr, Bool, true, false, cond, eqb, List, [], ◌∷◌, map, Option, None, refl, sym, ◌∙◌, arith}
+use Rattle.std.proofs.Common.{◌≡◌, ℕ, zero, suc, ◌<◌, ◌+◌, ◌%◌, ◌⊎◌, inl, inr, Bool, true, false, cond, eqb, List, [], ◌∷◌, Option, None, refl, sym, ◌∙◌, arith}
 use Rattle.std.specs.List.{flat_map}
 use Rattle.scalar_laws.specs.Semiring.{Semiring, IsSemiring}
 use Rattle.tables.specs.declared.Cell.{Cell}
@@ -47,14 +47,6 @@ module _ {S : Type 0} {M : Joining S} (L : IsJoining M) where
   -- Of the ranks below P one alone counts.
   pub total_below-owner : (P q : ℕ) (owns : ℕ → Bool) (a : S) → q < P → ((p : ℕ) → owns p ≡ eqb q p) → total_below M P (λ p. cond (owns p) a M.unit) ≡ a
   total_below-owner P q owns a below h = (λ t. total_below M P (λ p. cond (h p t) a M.unit)) ∙ total_below-one L P q a below
-
--- Families agree where they agree at each rank.
-each_from-ext : {A : Type 0} (n k : ℕ) (f g : ℕ → A) → ((p : ℕ) → p < n + k → f p ≡ g p) → map f (count_from n k) ≡ map g (count_from n k)
-each_from-ext n zero f g h = refl
-each_from-ext n (suc k) f g h = λ t. h n (omega arith) t ∷ each_from-ext (n + 1) k f g (λ p l. h p (omega arith)) t
-
-pub each_rank-ext : {A : Type 0} (P : ℕ) (f g : ℕ → A) → ((p : ℕ) → p < P → f p ≡ g p) → each_rank P f ≡ each_rank P g
-each_rank-ext P f g h = each_from-ext 0 P f g (λ p l. h p (omega arith))
 
 module _ {S : Type 0} {R : Semiring S} (L : IsSemiring R) where
   J : IsJoining (if_there R.plus)

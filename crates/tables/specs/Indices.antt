@@ -25,10 +25,14 @@ count_from n (suc k) = n ∷ count_from (n + 1) k
 abbrev pub each_rank : {A : Type 0} → ℕ → (ℕ → A) → List A
 each_rank P f = map f (count_from 0 P)
 
+-- The element before the rest, where it passes the test.
+abbrev pub with_passed : {A : Type 0} → Bool → A → List A → List A
+with_passed passes x rest = if passes then x ∷ rest else rest
+
 -- The elements with k mod P = r, where the first one is number k = n and each further one has the next number.
 abbrev pub dealt_from : {A : Type 0} → ℕ → ℕ → ℕ → List A → List A
 dealt_from n P r [] = []
-dealt_from n P r (x ∷ xs) = if (n % P) == r then x ∷ dealt_from (n + 1) P r xs else dealt_from (n + 1) P r xs
+dealt_from n P r (x ∷ xs) = with_passed ((n % P) == r) x (dealt_from (n + 1) P r xs)
 
 -- The part of a list that is dealt to rank r of P: its elements k, counted from 0, with k mod P = r, in their order.
 abbrev pub dealt : {A : Type 0} → ℕ → ℕ → List A → List A

@@ -5,7 +5,7 @@ use Rattle.std.proofs.lemmas.List.Elements.{All-map, All-weaker}
 use Rattle.std.proofs.lemmas.List.Sums.{AllPass-from_list_all}
 use Rattle.std.proofs.lemmas.Bool.{and_parts, ltb-true}
 use Rattle.std.proofs.lemmas.List.Kept.{AllPairs-cons}
-use Rattle.scalar_laws.specs.Forms.{Forms}
+use Rattle.scalar_laws.specs.Conversions.{Conversions}
 use Rattle.tables.specs.declared.Cell.{Cell}
 use Rattle.tables.specs.Tables.{Table, cells_of, stands_before, AreInOrder}
 use Rattle.tables.proofs.Listed.{AreInOrder-cells_of}
@@ -15,7 +15,7 @@ use Rattle.mm_text.specs.Written.{IsBefore, AreWithin}
 use Rattle.mm_text.specs.Written.{AreInOrder as AreAscending}
 use Rattle.model_defs.specs.ShowText.{shown_cell}
 
-module _ {S : Type 0} (F : Forms S) where
+module _ {S : Type 0} (F : Conversions S) where
   before-all : (c : Cell S) (cs : List (Cell S)) → list_all (stands_before c) cs ≡ true → All (IsBefore (shown_cell F c)) (map (shown_cell F) cs)
   before-all c cs h =
       All-map (IsBefore (shown_cell F c)) (shown_cell F) cs

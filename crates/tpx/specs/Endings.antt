@@ -1,6 +1,6 @@
 -- How a command ends: its status, its message, and what the input says of it.
 use Rattle.std.specs.Prelude.{◌≡◌, ℕ, Bool, true, false, List, [], map}
-use Rattle.scalar_laws.specs.Weighed.{weighed_semiring, weighed_forms}
+use Rattle.scalar_laws.specs.Weighed.{weighed_semiring, weighed_conversions}
 use Rattle.mm_text.specs.Outcomes.{IsTextFault}
 use Rattle.mm_text.specs.Reading.{File}
 use Rattle.mm_text.specs.declared.shown.Shown.{Shown}
@@ -34,15 +34,15 @@ message_of name Overflow = overflow_message
 -- the cells of the matrix of a file as they are printed
 abbrev pub shown_of : File → List Shown
 shown_of file =
-    let matrix = file_matrix weighed_semiring weighed_forms file.mirror file.lines in
-    map (shown_cell weighed_forms) (cells_of file.rows file.cols matrix)
+    let matrix = file_matrix weighed_semiring weighed_conversions file.mirror file.lines in
+    map (shown_cell weighed_conversions) (cells_of file.rows file.cols matrix)
 
 -- what is written of a file, and whether a place's weight is too great for it
 abbrev pub text_of : File → List ℕ
-text_of file = show_text weighed_semiring weighed_forms file
+text_of file = show_text weighed_semiring weighed_conversions file
 
 abbrev pub is_over : File → Bool
-is_over file = is_file_over weighed_semiring weighed_forms file
+is_over file = is_file_over weighed_semiring weighed_conversions file
 
 -- an ending that comes with a file that is shown
 abbrev pub EndsShown : File → Ending → Type 0

@@ -13,10 +13,10 @@ use tables::Cell;
 /// The cells with the integers that they show, or `Overflow` exactly where a number is over. Only `Memory` may come
 /// beside.
 pub fn shown_cells<S: Scalar>(alloc: Global, cells: &[Cell<S>]) -> Result<Vec<Shown>, Ending>
-    ensures shown { IfOk result (λ v. v.items ≡ map (shown_cell S.forms) cells.now) }
-    ensures none_over { OnOk result (list_any (λ c. S.forms.is_over c.value) cells.now ≡ false) }
+    ensures shown { IfOk result (λ v. v.items ≡ map (shown_cell S.conversions) cells.now) }
+    ensures none_over { OnOk result (list_any (λ c. S.conversions.is_over c.value) cells.now ≡ false) }
     ensures over { IfErr result (λ ending. ending ≡ Ending.Overflow
-        → list_any (λ c. S.forms.is_over c.value) cells.now ≡ true) }
+        → list_any (λ c. S.conversions.is_over c.value) cells.now ≡ true) }
     ensures faults { IfErr result IsOverflowOrMemory }
 {
     let mut shown = Vec::with_capacity(alloc, cells.len())?;

@@ -11,7 +11,7 @@ pub loop-k-init : goal.loop-k-init
 loop-k-init g c = record {
   mine = mod-eq_of_lt c.requires.is_rank;
   owned = c.requires.owned;
-  cells = brought-first (entry_numbers g.S.Scalar.semiring g.S.Scalar.forms c.args.«data».now.mirror) c.args.ranks c.args.rank c.args.«data».now.lines.items (cells_in c.args.blocks.now) c.requires.is_rank;
+  cells = brought-first (entry_numbers g.S.Scalar.semiring g.S.Scalar.conversions c.args.«data».now.mirror) c.args.ranks c.args.rank c.args.«data».now.lines.items (cells_in c.args.blocks.now) c.requires.is_rank;
 }
 
 pub loop-k-preserved : goal.loop-k-preserved
@@ -23,7 +23,7 @@ loop-k-preserved g c =
     record {
       mine = add-mod_right c.loop-k.k c.args.ranks ∙ c.loop-k.invariant.mine;
       owned = c.in_ok-send_entry.ensures.owned;
-      cells = brought-next (entry_numbers g.S.Scalar.semiring g.S.Scalar.forms c.args.«data».now.mirror) c.args.ranks c.args.rank c.loop-k.k c.args.«data».now.lines.items c.index.result.now
-          (cells_in c.args.blocks.now ++ flat_map (entry_numbers g.S.Scalar.semiring g.S.Scalar.forms c.args.«data».now.mirror) (dealt c.args.ranks c.args.rank c.args.«data».now.lines.items))
+      cells = brought-next (entry_numbers g.S.Scalar.semiring g.S.Scalar.conversions c.args.«data».now.mirror) c.args.ranks c.args.rank c.loop-k.k c.args.«data».now.lines.items c.index.result.now
+          (cells_in c.args.blocks.now ++ flat_map (entry_numbers g.S.Scalar.semiring g.S.Scalar.conversions c.args.«data».now.mirror) (dealt c.args.ranks c.args.rank c.args.«data».now.lines.items))
           (cells_in c.loop-k.blocks) (cells_in c.send_entry.new.blocks) c.requires.is_rank c.loop-k.invariant.mine within c.index.ensures c.loop-k.invariant.cells c.in_ok-send_entry.ensures.cells;
     }

@@ -8,7 +8,7 @@ use Rattle.gathered_rows.proofs.dealing.send_dealt.Given as goal
 
 abbrev pub invariant-loop-k : goal.invariant-loop-k
 invariant-loop-k g l =
-    let cells = flat_map (entry_numbers g.S.Scalar.semiring g.S.Scalar.forms l.«data».mirror) in
+    let cells = flat_map (entry_numbers g.S.Scalar.semiring g.S.Scalar.conversions l.«data».mirror) in
     record {
       mine : l.k % l.ranks ≡ l.rank;
       owned : AreOwned l.ranks l.«data».rows l.blocks;

@@ -1,7 +1,7 @@
 -- How a kind of number is read from a file, shown, and written into a message.
 use Rattle.std.specs.Prelude.{◌≡◌, ◌<◌, ℕ, ℤ, Bool, Option, List, length, All, is_none}
 
-pub record Forms (S : Type 0) : Type 0 where
+pub record Conversions (S : Type 0) : Type 0 where
   -- the number of an integer of a file, if it has one
   pub of_file : ℤ → Option S
   -- more than the kind can hold
@@ -14,7 +14,7 @@ pub record Forms (S : Type 0) : Type 0 where
   pub of_wire : List ℕ → S
 
 -- Only what is over has nothing to show, and the bytes of a number give it back.
-pub record IsForms {S : Type 0} (F : Forms S) : Type 0 where
+pub record AreConversions {S : Type 0} (F : Conversions S) : Type 0 where
   pub shown_over : (a : S) → is_none (F.shown a) ≡ F.is_over a
   pub wire_back : (a : S) → F.of_wire (F.to_wire a) ≡ a
   pub wire_length : (a : S) → length (F.to_wire a) ≡ 32
