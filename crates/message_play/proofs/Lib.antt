@@ -1,0 +1,13 @@
+pub mod Queues
+pub mod Results
+pub mod Batches
+pub mod Deliveries
+pub mod Lookups
+pub mod Courses
+pub mod Reaching
+pub mod Starts
+pub mod Plans
+pub mod Ends
+pub mod EarlierLetters
+pub mod Completes
+pub mod MadeRuns
