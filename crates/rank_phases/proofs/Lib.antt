@@ -1,0 +1,11 @@
+pub mod Absorbed
+pub mod Courses
+pub mod Filters
+pub mod Given
+pub mod Kept
+pub mod Outboxes
+pub mod PairNames
+pub mod PhasedPeers
+pub mod PhaseProtocols
+pub mod Posts
+pub mod Ready
