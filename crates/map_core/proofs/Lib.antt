@@ -4,3 +4,6 @@ pub mod Runs
 pub mod Places
 pub mod Contiguous
 pub mod Examples
+pub mod Classes
+pub mod Parting
+pub mod Accepted

@@ -10,7 +10,7 @@ use Rattle.map_core.specs.Layouts.{stands, AreDistinct, local_index, global_inde
 use Rattle.map_core.proofs.Members.{stands-list_any}
 
 -- the first place of what stands at l is l
-first_place : (xs : List ℕ) (l g : ℕ) → AreDistinct xs → l < length xs → get_or xs l 0 ≡ g → position_or_len (nat_eq g) xs ≡ l
+pub first_place : (xs : List ℕ) (l g : ℕ) → AreDistinct xs → l < length xs → get_or xs l 0 ≡ g → position_or_len (nat_eq g) xs ≡ l
 first_place [] l g distinct within at = absurd (omega arith)
 first_place (x ∷ xs) zero g distinct within at = let same : nat_eq g x ≡ true = grind (arith, nat_tests) in rw same
 first_place (x ∷ xs) (suc l) g distinct within at =

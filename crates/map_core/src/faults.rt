@@ -35,3 +35,36 @@ impl<T: Drop> From<AllocFailed<T>> for ListFault {
         ListFault::NoMem
     }
 }
+
+/// Why a list of global indices is not accepted by a rank that is to hold them all.
+#[derive(Debug, Drop, Error)]
+pub enum HeldFault {
+    /// The rank does not hold the index: the first such of the list.
+    #[error("NotHeld {gid}")]
+    NotHeld { gid: Gid },
+    /// Memory ran out.
+    #[error("NoMem")]
+    NoMem,
+}
+
+impl From<AllocError> for HeldFault {
+    ghost use Rattle.std.specs.Prelude.{◌≡◌};
+    ghost use Rattle.map_core.specs.declared.faults.HeldFault.TheVariants.{NoMem};
+
+    ghost from_gives = { λ _ e. e ≡ NoMem };
+
+    fn from(_: AllocError) -> HeldFault {
+        HeldFault::NoMem
+    }
+}
+
+impl<T: Drop> From<AllocFailed<T>> for HeldFault {
+    ghost use Rattle.std.specs.Prelude.{◌≡◌};
+    ghost use Rattle.map_core.specs.declared.faults.HeldFault.TheVariants.{NoMem};
+
+    ghost from_gives = { λ _ e. e ≡ NoMem };
+
+    fn from(_: AllocFailed<T>) -> HeldFault {
+        HeldFault::NoMem
+    }
+}

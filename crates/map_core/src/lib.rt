@@ -14,15 +14,18 @@ mod faults;
 pub mod laws;
 mod layout;
 mod local_map;
+mod parts;
 mod plan;
+mod plan_builder;
 #[cfg(test)]
 mod tests;
 mod uniform;
 
-pub use faults::ListFault;
+pub use faults::{HeldFault, ListFault};
 pub use layout::Layout;
 pub use local_map::LocalMap;
 pub use plan::Plan;
+pub use plan_builder::PlanBuilder;
 pub use uniform::uniform_owner;
 
 /// A global index, counted from 0.
