@@ -1,15 +1,14 @@
 -- Plans under construction: the places of lacked and accepted indices.
-use Rattle.std.proofs.Common.{◌≡◌, ℕ, zero, suc, ◌+◌, ◌<◌, ◌≤◌, Bool, true, false, not, cond, if◌then◌else◌, ◌||◌, ◌==◌, List, [], ◌∷◌, map, length, get_or, Option, None, Some, nat_eq, slice_set, inl, inr, refl, sym, ap, ◌∙◌, subst, length-set, arith}
+use Rattle.std.proofs.Common.{◌≡◌, ℕ, zero, suc, ◌+◌, ◌<◌, ◌≤◌, Bool, true, false, not, cond, if◌then◌else◌, ◌||◌, ◌==◌, List, [], ◌∷◌, map, length, Option, None, Some, slice_set, inl, inr, refl, sym, ap, ◌∙◌, subst, length-set, arith}
 use Rattle.std.specs.List.{filter, range_with_len}
 use Rattle.std.specs.Option.{unwrap_or}
 use Rattle.std.specs.Global.{Vec}
-use Rattle.std.proofs.lemmas.Bool.{cases_Bool, cases_eq, eq-eqb, ne_eqb, eqb-true, or_cases}
-use Rattle.std.proofs.lemmas.Bool.Decides.{nat_tests}
+use Rattle.std.proofs.lemmas.Bool.{cases_Bool, cases_eq, eq-eqb, ne_eqb}
 use Rattle.std.proofs.lemmas.List.{map-set}
 use Rattle.std.proofs.lemmas.List.FromFn.{length-map-range_with_len}
 use Rattle.tables.specs.Indices.{AreBelow}
 use Rattle.map_core.specs.Layouts.{stands, AreDistinct}
-use Rattle.map_core.specs.Classes.{index_at, indices_at, place, places, first_lacked, lacked, lacked_positions, is_lacked, same_count, permuted}
+use Rattle.map_core.specs.Classes.{index_at, indices_at, place, places, first_lacked, lacked, lacked_positions, is_lacked, same_count}
 use Rattle.map_core.specs.Parts.{PartLists, parts_below}
 use Rattle.map_core.specs.BuilderFields.{accepted_indices, accepted_places, AreAllBelow, IsBuilder}
 use Rattle.map_core.specs.PlanBuilders.{plan_of}

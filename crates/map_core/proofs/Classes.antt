@@ -1,13 +1,11 @@
 -- The classes of the positions of a list.
-use Rattle.std.proofs.Common.{◌≡◌, ◌≢◌, ℕ, zero, suc, ◌+◌, ◌<◌, ◌≤◌, ◌⊎◌, Bool, true, false, ◌&&◌, ◌||◌, ◌==◌, not, cond, if◌then◌else◌, List, [], ◌∷◌, ◌++◌, map, length, get_or, Option, None, Some, slice_get, nat_eq, nat_le, is_some, inl, inr, refl, sym, ap, ◌∙◌, arith, zero-add}
-use Rattle.std.specs.List.{filter, range_with_len, slice_index_or}
+use Rattle.std.proofs.Common.{◌≡◌, ◌≢◌, ℕ, zero, suc, ◌+◌, ◌<◌, ◌≤◌, Bool, true, false, ◌||◌, ◌==◌, not, if◌then◌else◌, List, [], ◌∷◌, ◌++◌, length, Option, None, Some, slice_get, nat_eq, inl, inr, refl, sym, ap, ◌∙◌, arith, zero-add}
+use Rattle.std.specs.List.{filter, range_with_len}
 use Rattle.std.proofs.lemmas.Bool.{cases_Bool, cases_eq, eq-eqb, ne_eqb}
-use Rattle.std.proofs.lemmas.Bool.Decides.{nat_tests}
 use Rattle.std.proofs.lemmas.List.Elements.{filter-append}
 use Rattle.std.specs.Option.{option_eq}
-use Rattle.tables.specs.Indices.{AreBelow}
-use Rattle.map_core.specs.Layouts.{stands, AreDistinct, local_index}
-use Rattle.map_core.specs.Classes.{index_at, indices_at, place, places, same_count, is_permuted, is_lacked, owns, owner_at}
+use Rattle.map_core.specs.Layouts.{stands}
+use Rattle.map_core.specs.Classes.{index_at, same_count}
 use Rattle.map_core.proofs.Runs.{run-push}
 
 -- what the count of same positions is where the first indices are the same, and where they are not

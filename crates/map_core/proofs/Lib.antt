@@ -7,3 +7,4 @@ pub mod Examples
 pub mod Classes
 pub mod Parting
 pub mod Accepted
+pub mod OneClass

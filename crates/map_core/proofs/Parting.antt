@@ -1,6 +1,6 @@
 -- Positions that are parted one after the other.
-use Rattle.std.proofs.Common.{◌≡◌, ◌≢◌, ℕ, zero, suc, ◌+◌, ◌<◌, ◌≤◌, Bool, true, false, ◌&&◌, not, cond, if◌then◌else◌, nat_le, nat_lt, is_some, List, [], ◌∷◌, ◌++◌, map, length, get_or, Option, None, Some, slice_set, inl, inr, refl, sym, ap, ◌∙◌, arith, length-set, get_or-set_same, get_or-set_other}
-use Rattle.std.specs.List.{range_with_len, slice_index_or}
+use Rattle.std.proofs.Common.{◌≡◌, ◌≢◌, ℕ, ◌+◌, ◌<◌, ◌≤◌, Bool, true, false, ◌&&◌, not, cond, if◌then◌else◌, nat_le, nat_lt, is_some, List, [], ◌∷◌, ◌++◌, map, length, get_or, Option, None, Some, slice_set, inl, inr, refl, sym, ap, ◌∙◌, arith, length-set, get_or-set_other}
+use Rattle.std.specs.List.{range_with_len}
 use Rattle.std.specs.Global.{Vec}
 use Rattle.std.proofs.lemmas.List.{append-nil, get_or-map, map-append, map-set, same_lists}
 use Rattle.std.proofs.lemmas.List.FromFn.{get_or-map-range_with_len, length-map-range_with_len}

@@ -1,7 +1,7 @@
 -- The classes of the indices of a transfer, as Tpetra's import and export have them. A rank has two lists of indices, and
 -- each position of the one, the parted list, is the same, permuted or lacked by whether the other list, which is held, has
 -- its index. An import parts its target and holds its source, an export parts its source and holds its target.
-use Rattle.std.specs.Prelude.{◌≡◌, ℕ, suc, ◌<◌, ◌↔◌, Bool, true, false, ◌&&◌, ◌==◌, not, nat_eq, nat_le, if◌then◌else◌, List, [], ◌∷◌, map, length, Option, None, Some}
+use Rattle.std.specs.Prelude.{◌≡◌, ℕ, suc, ◌<◌, ◌↔◌, Bool, true, false, ◌&&◌, ◌==◌, not, nat_eq, nat_le, if◌then◌else◌, List, [], ◌∷◌, map, length, Option, None, Some, is_none}
 use Rattle.std.specs.List.{filter, range_with_len, slice_index_or, position_or_len}
 use Rattle.map_core.specs.Layouts.{stands}
 
@@ -69,3 +69,7 @@ pub record AreOwners (me P : ℕ) (held xs : List ℕ) (owners : List (Option �
 abbrev pub first_lacked : List ℕ → List ℕ → Option ℕ
 first_lacked held [] = None
 first_lacked held (g ∷ gs) = if stands g held then first_lacked held gs else Some g
+
+-- the positions whose index is not held and has no owner, ascending
+abbrev pub unowned : List ℕ → List ℕ → List (Option ℕ) → List ℕ
+unowned held xs owners = filter (λ l. not (stands (index_at xs l) held) && is_none (owner_at owners l)) (range_with_len 0 (length xs))

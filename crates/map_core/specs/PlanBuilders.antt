@@ -1,5 +1,5 @@
 -- Plans under construction.
-use Rattle.std.specs.Prelude.{◌≡◌, ℕ, ◌∷◌, ◌++◌, List, [], map, Option, None, Some, slice_set}
+use Rattle.std.specs.Prelude.{◌≡◌, ℕ, List, [], map, Option, None, Some, slice_set}
 use Rattle.std.specs.List.{range_with_len, slice_index_or}
 use Rattle.std.specs.Option.{unwrap_or}
 use Rattle.map_core.specs.Classes.{same_count, permuted, indices_at, places, lacked_of_each, first_lacked}

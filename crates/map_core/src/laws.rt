@@ -1,7 +1,8 @@
 //! Laws over the definitions. Each function here does nothing: its contract holds of every layout that it speaks of.
-ghost use Rattle.std.specs.Prelude.{◌≡◌, ◌<◌, ◌≤◌, ◌↔◌, ℕ, true, false, length, IsSome, None, Some};
+ghost use Rattle.std.specs.Prelude.{◌≡◌, ◌<◌, ◌≤◌, ◌↔◌, ℕ, ◌∷◌, true, false, List, map, length, count_by, Option, IsSome, None, Some};
 ghost use Rattle.std.specs.List.{concat, range_with_len};
 ghost use Rattle.map_core.specs.Layouts.{stands, local_index, global_index, rank_list, owner, Layout, IsLayout, IsOneToOne, IsTotal};
+ghost use Rattle.map_core.specs.Classes.{same_count, permuted, unowned, lacked_positions, AreOwners};
 ghost use Rattle.map_core.specs.Plans.{reversed, PlanLists};
 ghost use Rattle.map_core.specs.Uniform.{uniform_count, uniform_layout};
 
@@ -56,4 +57,11 @@ pub fn uniform_order_law(ranks: u32, size: Gid)
 /// The plan of the way back from the way back is the plan itself.
 pub fn plan_reverse_law()
     ensures twice { (p : PlanLists) → reversed (reversed p) ≡ p }
+{}
+
+/// Each position of a list is in exactly one class: the same ones, the permuted ones, those whose index is not held and has
+/// no owner, or the lacked ones of one rank.
+pub fn class_law()
+    ensures one_class { (me ranks : ℕ) (held xs : List ℕ) (owners : List (Option ℕ)) → AreOwners me ranks held xs owners → (l : ℕ) → l < length xs
+        → count_by (stands l) (range_with_len 0 (same_count held xs) ∷ permuted held xs ∷ unowned held xs owners ∷ map (lacked_positions held xs owners) (range_with_len 0 ranks)) ≡ 1 }
 {}

@@ -1,4 +1,4 @@
-use Rattle.std.proofs.Common.{◌≡◌, ◌<◌, ◌≤◌, length, slice_get, sym, ◌∙◌, arith}
+use Rattle.std.proofs.Common.{sym, ◌∙◌, arith}
 use Rattle.map_core.proofs.Classes.{differ, same_count-is}
 use Rattle.map_core.proofs.parts.same_len.Goals as goal
 

@@ -1,8 +1,7 @@
-use Rattle.std.proofs.Common.{◌≡◌, true, false, ◌++◌, ◌∷◌, [], Some, None, refl, sym, ap, ◌∙◌, arith, drop, take, get_or, ◌+◌}
+use Rattle.std.proofs.Common.{◌++◌, ◌∷◌, [], sym, ap, ◌∙◌, drop, take, get_or, ◌+◌}
 use Rattle.std.proofs.lemmas.List.{drop_more, take_more, map-append}
-use Rattle.map_core.specs.Layouts.{stands}
 use Rattle.map_core.specs.Classes.{first_lacked, place, places}
-use Rattle.map_core.proofs.Accepted.{first_lacked-held, first_lacked-not_held}
+use Rattle.map_core.proofs.Accepted.{first_lacked-held}
 use Rattle.map_core.proofs.Parting.{place-is}
 use Rattle.map_core.proofs.plan_builder.places_in.Goals as goal
 

@@ -1,4 +1,4 @@
-use Rattle.std.proofs.Common.{◌≡◌, length, map, subst, ap, sym, ◌∙◌}
+use Rattle.std.proofs.Common.{length, subst, ap, sym, ◌∙◌}
 use Rattle.tables.specs.Indices.{AreBelow}
 use Rattle.map_core.specs.Classes.{first_lacked, indices_at, places}
 use Rattle.map_core.specs.PlanBuilders.{with_accepted}
