@@ -1,0 +1,12 @@
+use Rattle.std.proofs.Common.{◌≡◌, take}
+use Rattle.std.specs.List.{zip}
+use Rattle.distributor.specs.Entries.{with_cells}
+use Rattle.distributor.specs.Transfers.{moved_cells}
+use Rattle.distributor.proofs.combining.combine_permuted.Given as goal
+
+abbrev pub invariant-loop-i : goal.invariant-loop-i
+invariant-loop-i g l = record {
+  so_far : g.B.DistTarget.table l.target ≡ with_cells g.S.Scalar.semiring l.mode g.B.DistTarget.FIXED (g.B.DistTarget.table l.fn.target) (moved_cells (g.A.DistSource.entries l.source) (take l.i (zip l.froms l.tos)));
+  takes : g.B.DistTarget.takes l.target ≡ g.B.DistTarget.takes l.fn.target;
+  shape : g.B.DistTarget.same_shape l.fn.target l.target;
+}
