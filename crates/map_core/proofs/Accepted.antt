@@ -1,17 +1,19 @@
 -- Plans under construction: the places of lacked and accepted indices.
-use Rattle.std.proofs.Common.{◌≡◌, ℕ, zero, suc, ◌+◌, ◌<◌, ◌≤◌, Bool, true, false, not, cond, if◌then◌else◌, ◌||◌, ◌==◌, List, [], ◌∷◌, map, length, Option, None, Some, slice_set, inl, inr, refl, sym, ap, ◌∙◌, subst, length-set, arith}
+use Rattle.std.proofs.Common.{◌≡◌, ℕ, zero, suc, ◌+◌, ◌<◌, ◌≤◌, Bool, true, false, not, cond, if◌then◌else◌, ◌||◌, ◌==◌, Result, Ok, Err, IfOk, get_or, List, [], ◌∷◌, map, length, Option, None, Some, slice_set, inl, inr, refl, sym, ap, ◌∙◌, subst, length-set, arith, nat_le, ◌&&◌}
 use Rattle.std.specs.List.{filter, range_with_len}
 use Rattle.std.specs.Option.{unwrap_or}
 use Rattle.std.specs.Global.{Vec}
-use Rattle.std.proofs.lemmas.Bool.{cases_Bool, cases_eq, eq-eqb, ne_eqb}
-use Rattle.std.proofs.lemmas.List.{map-set}
-use Rattle.std.proofs.lemmas.List.FromFn.{length-map-range_with_len}
+use Rattle.std.proofs.lemmas.Bool.{cases_Bool, cases_eq, cases_lt, eq-eqb, ne_eqb}
+use Rattle.std.proofs.lemmas.List.{get_or_past, map-set}
+use Rattle.std.proofs.lemmas.List.FromFn.{get_or-map-range_with_len, length-map-range_with_len}
 use Rattle.tables.specs.Indices.{AreBelow}
 use Rattle.map_core.specs.Layouts.{stands, AreDistinct}
-use Rattle.map_core.specs.Classes.{index_at, indices_at, place, places, first_lacked, lacked, lacked_positions, is_lacked, same_count}
+use Rattle.map_core.specs.Classes.{first_lacked, index_at, indices_at, is_lacked, is_permuted, lacked, lacked_positions, place, places, same_count}
 use Rattle.map_core.specs.Parts.{PartLists, parts_below}
 use Rattle.map_core.specs.BuilderFields.{accepted_indices, accepted_places, AreAllBelow, IsBuilder}
 use Rattle.map_core.specs.PlanBuilders.{plan_of}
+use Rattle.map_core.specs.Plans.{PlanLists, IsWithin, reversed}
+use Rattle.map_core.proofs.Classes.{same_count-le}
 use Rattle.map_core.proofs.Places.{first_place}
 
 -- the places of the indices at positions are these positions
@@ -19,6 +21,10 @@ pub places-indices_at : (xs ls : List ℕ) → AreDistinct xs → AreBelow (leng
 places-indices_at xs [] distinct below = refl
 places-indices_at xs (l ∷ ls) distinct below =
     (λ t. first_place xs l (index_at xs l) distinct below.0 refl t ∷ places-indices_at xs ls distinct below.1 t)
+
+and_second : (a b : Bool) → (a && b) ≡ true → b ≡ true
+and_second true b h = h
+and_second false b h = absurd (cc)
 
 AreBelow-first : (n a : ℕ) (xs : List ℕ) (b : Bool) → a < n → AreBelow n xs → AreBelow n (cond b (a ∷ xs) xs)
 AreBelow-first n a xs true low below = (low, below)
@@ -42,6 +48,13 @@ places-lacked_of_each P held xs owners distinct = over (range_with_len 0 P)
     over [] = refl
     over (q ∷ qs) = λ t. sym (places-lacked held xs owners q distinct) t ∷ over qs t
 
+pub lacked_positions-below : (P : ℕ) (held xs : List ℕ) (owners : List (Option ℕ)) (q : ℕ)
+    → AreBelow (length xs) (get_or (map (lacked_positions held xs owners) (range_with_len 0 P)) q [])
+lacked_positions-below P held xs owners q = elim (cases_lt q P) [
+  | inl low ↦ subst (AreBelow (length xs)) (sym (get_or-map-range_with_len (lacked_positions held xs owners) 0 P q q [] low (omega arith))) (AreBelow-filter (is_lacked held xs owners q) 0 (length xs) (length xs) (omega arith))
+  | inr past ↦ subst (AreBelow (length xs)) (sym (get_or_past (map (lacked_positions held xs owners) (range_with_len 0 P)) q [] (let many = length-map-range_with_len (lacked_positions held xs owners) 0 P in omega arith))) tt
+]
+
 -- the place of an index that stands in the list
 pub record IsPlaced (xs : List ℕ) (g : ℕ) : Type 0 where
   pub within : place xs g < length xs
@@ -60,6 +73,16 @@ placed (x ∷ xs) g h = elim (cases_eq g x) [
       let low = rest.within in
       record { within = omega arith; index = ap (index_at (x ∷ xs)) next ∙ rest.index }
 ]
+
+-- the places of permuted indices are in the held list
+permuted-first : (held xs : List ℕ) (a : ℕ) (ls : List ℕ) (b : Bool) → is_permuted held xs a ≡ b → AreBelow (length held) (places held (indices_at xs ls))
+    → AreBelow (length held) (places held (indices_at xs (cond b (a ∷ ls) ls)))
+permuted-first held xs a ls true e below = ((placed held (index_at xs a) (and_second (nat_le (same_count held xs) a) (stands (index_at xs a) held) e)).within, below)
+permuted-first held xs a ls false e below = below
+
+pub permuted-places : (held xs : List ℕ) (a m : ℕ) → AreBelow (length held) (places held (indices_at xs (filter (is_permuted held xs) (range_with_len a m))))
+permuted-places held xs a zero = tt
+permuted-places held xs a (suc m) = permuted-first held xs a (filter (is_permuted held xs) (range_with_len (a + 1) m)) (is_permuted held xs a) refl (permuted-places held xs (a + 1) m)
 
 -- where no index is lacked, the places are those of held indices
 pub record ArePlaced (held gs : List ℕ) : Type 0 where
@@ -105,6 +128,11 @@ accepted_places-is held [] distinct below = refl
 accepted_places-is held (None ∷ ps) distinct below = ap (λ ls. [] ∷ ls) (accepted_places-is held ps distinct below.1)
 accepted_places-is held (Some v ∷ ps) distinct below = λ t. sym (places-indices_at held v.items distinct below.0) t ∷ accepted_places-is held ps distinct below.1 t
 
+pub accepted_places-below : (n : ℕ) (ps : List (Option (Vec ℕ))) (q : ℕ) → AreAllBelow n ps → AreBelow n (get_or (map accepted_places ps) q [])
+accepted_places-below n [] q below = tt
+accepted_places-below n (p ∷ ps) zero below = below.0
+accepted_places-below n (p ∷ ps) (suc q) below = accepted_places-below n ps q below.1
+
 pub accepted-set : (held : List ℕ) (ps : List (Option (Vec ℕ))) (q : ℕ) (v : Vec ℕ) (gs : List ℕ) → indices_at held v.items ≡ gs
     → map (accepted_indices held) (slice_set ps q (Some v)) ≡ slice_set (map (accepted_indices held) ps) q (Some gs)
 accepted-set held ps q v gs e = map-set (accepted_indices held) ps q (Some v) ∙ ap (λ gs. slice_set (map (accepted_indices held) ps) q (Some gs)) e
@@ -125,6 +153,7 @@ IsBuilder-start me ranks same held parted h p owners parts accepted is_held is_p
       permuted_positions = ap (λ ps. ps.permuted) parted_all;
       permuted_places = ap (λ ps. ps.places) parted_all;
       remote_positions = ap (λ ps. ps.remotes) parted_all ∙ places-lacked_of_each ranks held parted owners two ∙ ap (λ ps. map (places parted) ps.lacked) (sym parted_all);
+      remotes_below = λ q. subst (λ ps. AreBelow (length parted) (get_or ps.remotes q [])) (sym parted_all) (lacked_positions-below ranks held parted owners q);
       lacked_of_each = ap (λ ps. length ps.lacked) parted_all ∙ length-map-range_with_len (lacked held parted owners) 0 ranks;
       accepted_of_each = ap length none ∙ length-map-range_with_len (λ _. None) 0 ranks;
       accepted_below = subst (AreAllBelow (length held)) (sym none) (AreAllBelow-none (length held) 0 ranks);
@@ -142,6 +171,7 @@ IsBuilder-set me ranks same held parted parts accepted q v kept below =
       permuted_positions = kept.permuted_positions;
       permuted_places = kept.permuted_places;
       remote_positions = kept.remote_positions;
+      remotes_below = kept.remotes_below;
       lacked_of_each = kept.lacked_of_each;
       accepted_of_each = length-set accepted q (Some v) ∙ kept.accepted_of_each;
       accepted_below = AreAllBelow-set (length held) accepted q v kept.accepted_below below;
@@ -162,3 +192,34 @@ plan_of-is me ranks same held parted parts accepted to from es rs kept t f e r =
       exports = (e ∙ accepted_places-is held accepted kept.distinct kept.accepted_below) u;
       remotes = (r ∙ kept.remote_positions) u;
     }
+
+-- its positions are in both lists
+pub IsWithin-plan_of : (me ranks same : ℕ) (held parted : List ℕ) (parts : PartLists) (accepted : List (Option (Vec ℕ)))
+    → IsBuilder me ranks same held parted parts accepted
+    → IsWithin (length held) (length parted) (plan_of (record { me = me; ranks = ranks; held = held; parted = parted; lacked = parts.lacked; accepted = map (accepted_indices held) accepted }))
+IsWithin-plan_of me ranks same held parted parts accepted kept =
+    record {
+      same_sources = (same_count-le held parted).0;
+      same_targets = (same_count-le held parted).1;
+      permuted_sources = permuted-places held parted 0 (length parted);
+      permuted_targets = AreBelow-filter (is_permuted held parted) 0 (length parted) (length parted) (omega arith);
+      export_sources = λ q. subst (λ ls. AreBelow (length held) (get_or ls q [])) (accepted_places-is held accepted kept.distinct kept.accepted_below) (accepted_places-below (length held) accepted q kept.accepted_below);
+      remote_targets = λ q. subst (λ ls. AreBelow (length parted) (get_or ls q [])) kept.remote_positions (kept.remotes_below q);
+    }
+
+-- on the way back source and target are exchanged
+pub IsWithin-reversed : (m n : ℕ) (p : PlanLists) → IsWithin m n p → IsWithin n m (reversed p)
+IsWithin-reversed m n p h =
+    record {
+      same_sources = h.same_targets;
+      same_targets = h.same_sources;
+      permuted_sources = h.permuted_targets;
+      permuted_targets = h.permuted_sources;
+      export_sources = h.remote_targets;
+      remote_targets = h.export_sources;
+    }
+
+-- what an answer is has what that value has
+pub ok_along : {T E : Type 0} (P : T → Type 0) (x : T) (r : Result T E) → P x → IfOk r (λ y. y ≡ x) → IfOk r P
+ok_along P x (Ok y) h e = subst P (sym e) h
+ok_along P x (Err y) h e = e

@@ -1,5 +1,6 @@
 -- What the fields of a plan under construction keep.
 use Rattle.std.specs.Prelude.{◌≡◌, ℕ, ◌<◌, ◌≤◌, List, [], ◌∷◌, length, map, Option, Some, None}
+use Rattle.std.specs.List.{slice_index_or}
 use Rattle.std.specs.Global.{Vec}
 use Rattle.tables.specs.Indices.{AreDistinct, AreBelow}
 use Rattle.map_core.specs.Classes.{same_count, permuted, indices_at, places}
@@ -28,6 +29,7 @@ pub record IsBuilder (me ranks same : ℕ) (held parted : List ℕ) (parts : Par
   pub permuted_positions : parts.permuted ≡ permuted held parted
   pub permuted_places : parts.places ≡ places held (indices_at parted (permuted held parted))
   pub remote_positions : parts.remotes ≡ map (places parted) parts.lacked
+  pub remotes_below : (q : ℕ) → AreBelow (length parted) (slice_index_or parts.remotes q [])
   pub lacked_of_each : length parts.lacked ≡ ranks
   pub accepted_of_each : length accepted ≡ ranks
   pub accepted_below : AreAllBelow (length held) accepted

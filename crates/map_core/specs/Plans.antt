@@ -1,6 +1,7 @@
 -- Plans: what one rank sends, receives and copies in a transfer, as Tpetra's import and export have it.
 use Rattle.std.specs.Prelude.{◌≡◌, ℕ, ◌<◌, ◌≤◌, List, [], length}
 use Rattle.std.specs.List.{slice_index_or}
+use Rattle.tables.specs.Indices.{AreBelow}
 
 -- the lists of a plan: all are of local indices, counted from 0
 pub record PlanLists : Type 0 where
@@ -43,3 +44,12 @@ reversed p =
       exports = p.remotes;
       remotes = p.exports;
     }
+
+-- all positions of the plan are in a source of m indices and in a target of n indices
+pub record IsWithin (m n : ℕ) (p : PlanLists) : Type 0 where
+  pub same_sources : p.same ≤ m
+  pub same_targets : p.same ≤ n
+  pub permuted_sources : AreBelow m p.permute_from
+  pub permuted_targets : AreBelow n p.permute_to
+  pub export_sources : (q : ℕ) → AreBelow m (export_list p q)
+  pub remote_targets : (q : ℕ) → AreBelow n (remote_list p q)

@@ -1,9 +1,10 @@
 //! Plans under construction.
-ghost use Rattle.std.specs.Prelude.{◌≡◌, ◌≢◌, ◌<◌, ◌≤◌, ℕ, map, is_some, IsSome, None, IfOk, IfErr, OnOk, OnErr};
+ghost use Rattle.std.specs.Prelude.{◌≡◌, ◌≢◌, ◌<◌, ◌≤◌, ℕ, map, length, is_some, IsSome, None, IfOk, IfErr, OnOk, OnErr};
 ghost use Rattle.map_core.specs.Classes.{AreOwners, first_lacked, places};
 ghost use Rattle.std.specs.List.{range_with_len};
 ghost use Rattle.map_core.specs.BuilderFields.{accepted_places};
 ghost use Rattle.map_core.specs.Parts.{lists_of};
+ghost use Rattle.map_core.specs.Plans.{IsWithin};
 ghost use Rattle.map_core.specs.PlanBuilders.{accepted_from, lacked_by, plan_of, started, with_accepted, IsHeldFault};
 
 use crate::parts::{Parts, same_len};
@@ -112,6 +113,7 @@ impl PlanBuilder {
     pub fn finish(self) -> Result<Plan, AllocError>
         requires all { (q : ℕ) → q < self.ranks → q ≢ self.me → IsSome (accepted_from self q) }
         ensures plan { IfOk result (λ plan. plan ≡ plan_of self) }
+        ensures within { IfOk result (IsWithin (length self.held) (length self.parted)) }
     {
         let exports = all_accepted(self.alloc, self.accepted)?;
         let parts = self.parts;
