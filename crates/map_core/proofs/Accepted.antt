@@ -8,12 +8,12 @@ use Rattle.std.proofs.lemmas.List.{get_or_past, map-set}
 use Rattle.std.proofs.lemmas.List.FromFn.{get_or-map-range_with_len, length-map-range_with_len}
 use Rattle.tables.specs.Indices.{AreBelow}
 use Rattle.map_core.specs.Layouts.{stands, AreDistinct}
-use Rattle.map_core.specs.Classes.{first_lacked, index_at, indices_at, is_lacked, is_permuted, lacked, lacked_positions, place, places, same_count}
+use Rattle.map_core.specs.Classes.{AreOwners, first_lacked, index_at, indices_at, is_lacked, is_permuted, lacked, lacked_of_each, lacked_positions, owner_at, owns, place, places, same_count}
 use Rattle.map_core.specs.Parts.{PartLists, parts_below}
 use Rattle.map_core.specs.BuilderFields.{accepted_indices, accepted_places, AreAllBelow, IsBuilder}
 use Rattle.map_core.specs.PlanBuilders.{plan_of}
 use Rattle.map_core.specs.Plans.{PlanLists, IsWithin, reversed}
-use Rattle.map_core.proofs.Classes.{same_count-le}
+use Rattle.map_core.proofs.Classes.{filter-none, same_count-le}
 use Rattle.map_core.proofs.Places.{first_place}
 
 -- the places of the indices at positions are these positions
@@ -223,3 +223,29 @@ IsWithin-reversed m n p h =
 pub ok_along : {T E : Type 0} (P : T → Type 0) (x : T) (r : Result T E) → P x → IfOk r (λ y. y ≡ x) → IfOk r P
 ok_along P x (Ok y) h e = subst P (sym e) h
 ok_along P x (Err y) h e = e
+
+-- a list for each rank, at a rank
+pub each_at : (f : ℕ → List ℕ) (P q : ℕ) → q < P → get_or (map f (range_with_len 0 P)) q [] ≡ f q
+each_at f P q low = get_or-map-range_with_len f 0 P q q [] low (omega arith)
+
+-- the lists of positions of the lacked indices
+pub remotes-lacked : (P : ℕ) (held xs : List ℕ) (owners : List (Option ℕ)) (ls : List (List ℕ)) → AreDistinct xs → ls ≡ lacked_of_each P held xs owners
+    → map (places xs) ls ≡ map (lacked_positions held xs owners) (range_with_len 0 P)
+remotes-lacked P held xs owners ls distinct e = ap (map (places xs)) e ∙ sym (places-lacked_of_each P held xs owners distinct)
+
+-- a rank lacks nothing that it owns itself
+pub none_of_own : (me P : ℕ) (held xs : List ℕ) (owners : List (Option ℕ)) (ls : List (List ℕ)) → AreOwners me P held xs owners → ls ≡ lacked_of_each P held xs owners → get_or ls me [] ≡ []
+none_of_own me P held xs owners ls owned e = ap (λ ls. get_or ls me []) e ∙ elim (cases_lt me P) [
+  | inl known ↦
+      each_at (lacked held xs owners) P me known
+      ∙ ap (indices_at xs) (filter-none (is_lacked held xs owners me) (length xs) (λ l low. own l low (owner_at owners l) (stands (index_at xs l) held) refl refl))
+  | inr past ↦ get_or_past (lacked_of_each P held xs owners) me [] (let many = length-map-range_with_len (lacked held xs owners) 0 P in omega arith)
+]
+  where
+    own : (l : ℕ) → l < length xs → (o : Option ℕ) (b : Bool) → owner_at owners l ≡ o → stands (index_at xs l) held ≡ b → is_lacked held xs owners me l ≡ false
+    own l low o true e h = ap (λ b. not b && owns (owner_at owners l) me) h
+    own l low None false e h = (λ t. not (h t) && owns (e t) me)
+    own l low (Some p) false e h = elim (cases_eq p me) [
+      | inl mine ↦ let on = (owned.mine l low).1 (e ∙ ap Some mine) in absurd (cc)
+      | inr other ↦ (λ t. not (h t) && owns (e t) me) ∙ ne_eqb p me other
+    ]
