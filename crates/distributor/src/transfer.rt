@@ -1,11 +1,14 @@
 //! Transfers by a plan.
-ghost use Rattle.std.specs.Prelude.{◌≡◌, ◌<◌, true, None, length, nat_lt, IsOk, OnOk, OnErr};
+ghost use Rattle.std.specs.Prelude.{◌≡◌, ◌<◌, ◌≤◌, ◌^◌, ◌++◌, ℕ, true, None, Some, length, map, nat_lt, IfOk, IsOk, OnOk, OnErr};
 ghost use Rattle.std.specs.List.{list_all};
 ghost use Rattle.distributor.specs.Entries.{with_cells};
-ghost use Rattle.distributor.specs.Transfers.{IsPartOf, own_moves, moved_cells};
+ghost use Rattle.distributor.specs.Transfers.{IsPartOf, own_moves, moved_cells, nums_length, letter_lengths, IsPartReserved};
+ghost use Rattle.byte_pool.specs.Blocks.{free_block};
+ghost use Rattle.map_core.specs.Plans.{export_list};
 
 use crate::combining::{combine_permuted, combine_same};
 use crate::{DistSource, DistTarget};
+use byte_pool::Pool;
 use combine_modes::Mode;
 use map_core::Plan;
 use scalar_laws::Scalar;
@@ -25,9 +28,31 @@ impl Model for Transfer {
     ghost Value = { TransferState };
 
     ghost view = { λ t. record { plan = t.plan; width = t.width } };
+
+    ghost use Rattle.distributor.specs.Transfers.{LettersFit};
+
+    ghost invariant = { λ t. LettersFit (record { plan = t.plan; width = t.width }) };
 }
 
 impl Transfer {
+    /// The transfer of entries that each have `width` numbers, 1 to 16, by a plan. In the pool it reserves, for each rank
+    /// that the plan exports to, a block of the length of the letter to it. Each of these lengths is below 2^64. `Err`
+    /// means that memory ran out; then the blocks that were made stay free in the pool.
+    pub fn ready(plan: Plan, width: u32, pool: &mut Pool) -> Result<Transfer, AllocError>
+        requires some_width { 1 ≤ width }
+        requires width_limit { width ≤ 16 }
+        requires letters_fit { (q : ℕ) → q < plan.ranks → nums_length (length (export_list plan q)) width < 2 ^ 64 }
+        ensures transfer { IfOk result (λ t. t ≡ record { plan = plan; width = Some width }) }
+        ensures reserved { OnOk result (pool.new ≡ pool.old ++ map free_block (letter_lengths width plan.exports)) }
+        ensures part { OnErr result (IsPartReserved (letter_lengths width plan.exports) pool.old pool.new) }
+    {
+        reserve_letters(&plan, width, pool)?;
+        Ok(Transfer {
+            plan,
+            width: Some(width),
+        })
+    }
+
     /// The transfer of rows by a plan. It takes no memory.
     pub fn for_rows(plan: Plan) -> Transfer
         ensures transfer { result ≡ record { plan = plan; width = None } }
@@ -58,4 +83,28 @@ impl Transfer {
         let froms = self.plan.permute_from();
         combine_permuted(source, froms, target, self.plan.permute_to(), mode)
     }
+}
+
+/// The length of a letter of so many entries that each have `width` numbers.
+#[inline]
+fn nums_len(entries: u64, width: u32) -> u64
+    requires fits { nums_length entries width < 2 ^ 64 }
+    ensures length { result ≡ nums_length entries width }
+{
+    9 + 8 * entries + 32 * (entries * width as u64)
+}
+
+/// Reserves a block of the length of each letter.
+fn reserve_letters(plan: &Plan, width: u32, pool: &mut Pool) -> Result<(), AllocError>
+    requires letters_fit { (q : ℕ) → q < plan.now.ranks → nums_length (length (export_list plan.now q)) width < 2 ^ 64 }
+    ensures reserved { OnOk result (pool.new ≡ pool.old ++ map free_block (letter_lengths width plan.now.exports)) }
+    ensures part { OnErr result (IsPartReserved (letter_lengths width plan.now.exports) pool.old pool.new) }
+{
+    for rank in 0..plan.ranks() {
+        let entries = plan.exports_to(rank).len() as u64;
+        if entries > 0 {
+            pool.reserve(1, nums_len(entries, width))?;
+        }
+    }
+    Ok(())
 }
