@@ -2,3 +2,4 @@ pub mod FileLookups
 pub mod LetterCounts
 pub mod LetterLookups
 pub mod Names
+pub mod Taking

@@ -1,5 +1,7 @@
 pub mod Faults
 pub mod Bytes
+pub mod Writes
+pub mod Reads
 pub mod Letters
 pub mod MailRoom
 pub mod PendingLetters

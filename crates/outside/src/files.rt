@@ -1,14 +1,14 @@
 //! Files that are read by name.
-ghost use Rattle.std.specs.Prelude.{◌≡◌, ◌≤◌, ◌++◌, ℕ, List, Option, Some, length, take, drop, IfOk, IsErr, OnOk};
+ghost use Rattle.std.specs.Prelude.{◌≡◌, ◌≤◌, ℕ, List, Option, Some, length, take, drop, IfOk, IsErr};
 ghost use Rattle.outside.specs.Bytes.{IsReadOf};
-ghost use Rattle.outside.specs.Faults.{Rose};
+ghost use Rattle.outside.specs.Reads.{Reads, Source};
 
 use crate::Failed;
 
 /// Files that are read by name, from any byte on.
 pub trait Files {
     /// The bytes of each name, where this source tells them.
-    ghost told: { Self → Option (List ℕ → Option (List ℕ)) };
+    ghost told: { Self → Option Source };
 
     /// For each name, how often a read of it was a fault.
     ghost faults: { Self → List ℕ → ℕ };
@@ -19,11 +19,9 @@ pub trait Files {
     /// Bytes are counted from 0. `Failed` comes only where the count of faults of `name` rose; a name that does not exist
     /// is such a fault. After it nothing is said of `buf`.
     fn read_at(&mut self, name: &str, at: u64, buf: &mut [u8]) -> Result<usize, Failed>
-        ensures same_files { told self.new ≡ told self.old }
-        ensures never_falls { (n : List ℕ) → faults self.old n ≤ faults self.new n }
+        ensures reads { Reads told faults self.old self.new name.now (IsErr result) }
         ensures within { IfOk result (λ n. n ≤ length buf.old) }
         ensures rest_stays { IfOk result (λ n. drop n buf.new ≡ drop n buf.old) }
-        ensures piece { IfOk result (λ n. (files : List ℕ → Option (List ℕ)) → told self.old ≡ Some files → IsReadOf (files name.now) at n (length buf.old) (take n buf.new)) }
-        ensures no_fault { OnOk result ((n : List ℕ) → faults self.new n ≡ faults self.old n) }
-        ensures fault { IsErr result → Rose (faults self.old name.now) (faults self.new name.now) };
+        ensures piece { IfOk result (λ n. (source : Source) → told self.old ≡ Some source
+            → IsReadOf (source name.now) at n (length buf.old) (take n buf.new)) };
 }

@@ -33,6 +33,6 @@ pub use mem_sink::MemSink;
 pub use name::Name;
 pub use real_files::RealFiles;
 pub use real_sink::RealSink;
-pub use sinks::Sink;
+pub use sinks::{Sink, SinkFault, write_all};
 pub use wire::Wire;
 pub use wire_err::WireErr;

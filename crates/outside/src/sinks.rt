@@ -2,6 +2,7 @@
 ghost use Rattle.std.specs.Prelude.{◌≡◌, ◌≤◌, ℕ, List, Option, length, take, IfOk, IsErr, OnOk, []};
 ghost use Rattle.outside.specs.Bytes.{with_bytes};
 ghost use Rattle.outside.specs.Faults.{Rose};
+ghost use Rattle.outside.specs.Writes.{Writes};
 
 use crate::Failed;
 
@@ -24,4 +25,24 @@ pub trait Sink {
         ensures no_fault { OnOk result (faults self.new ≡ faults self.old) }
         ensures fault { IsErr result → Rose (faults self.old) (faults self.new) }
         ensures nothing_taken { IsErr result → told self.new ≡ told self.old };
+}
+
+/// The sink failed: its count of faults rose.
+#[derive(Clone, Copy, Debug, PartialEq, Eq)]
+pub struct SinkFault;
+
+/// Writes all of `bytes` to the sink, in as many pieces as it takes.
+///
+/// A `SinkFault` comes exactly where a write failed, and then the sink has taken a prefix of the bytes.
+pub fn write_all<O: Sink>(out: &mut O, bytes: &[u8]) -> Result<(), SinkFault>
+    ensures { Writes O.told O.faults out.old out.new bytes.now result }
+{
+    let mut done = 0;
+    while done < bytes.len() {
+        match out.write(&bytes[done..]) {
+            Ok(count) => done += count,
+            Err(Failed) => return Err(SinkFault),
+        }
+    }
+    Ok(())
 }
