@@ -9,8 +9,9 @@ use Rattle.std.specs.Str.Parse.{AllDigits, starts_with_minus, without_leading_pl
 use Rattle.std.proofs.lemmas.Bool.{cond_both, lt-ltb, le-ltb, ne_eqb, and_parts}
 use Rattle.std.proofs.lemmas.Fmt.{decimal_is_IsNumeral_wide}
 use Rattle.std.proofs.lemmas.Str.Parse.{tells_all_ascii_digits, digit_from_value}
+use Rattle.mm_text.specs.Limits.{widest}
 use Rattle.mm_text.specs.Lines.{Text, is_word}
-use Rattle.mm_text.specs.Numerals.{digits_of, count_of, value_of, with_sign_of, in_width, widest}
+use Rattle.mm_text.specs.Numerals.{digits_of, count_of, value_of, with_sign_of, in_width}
 
 -- one byte or more, all behind the space
 abbrev pub is_visible : Text → Bool

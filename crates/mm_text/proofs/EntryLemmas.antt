@@ -2,10 +2,10 @@
 use Rattle.std.proofs.Common.{◌≡◌, ℕ, ◌-◌, ◌^◌, ◌<◌, ◌≤◌, Bool, true, false, cond, ◌||◌, Option, Some, None, Err, option_map, refl, ap, sym, ◌∙◌, arith, inl, inr, ◌⊎◌}
 use Rattle.std.proofs.lemmas.Bool.{cases_lt}
 use Rattle.std.proofs.lemmas.Bool.Decides.{nat_tests}
-use Rattle.mm_text.specs.declared.entries.Cell.{Cell}
+use Rattle.mm_text.specs.declared.reading.entries.Cell.{Cell}
 use Rattle.mm_text.specs.declared.fault.MmFault.TheVariants.{OutOfRange}
 use Rattle.mm_text.specs.declared.file_data.Mirror.{Mirror}
-use Rattle.mm_text.specs.declared.sizes.Sizes.{Sizes}
+use Rattle.mm_text.specs.declared.reading.sizes.Sizes.{Sizes}
 use Rattle.mm_text.specs.Cut.{cut, cut_cell}
 use Rattle.mm_text.specs.Entries.{is_out, placed, placed_or_bad}
 use Rattle.mm_text.specs.Outcomes.{Outcome}

@@ -1,19 +1,20 @@
 -- What holds of each entry that is read.
 use Rattle.std.proofs.Common.{◌≡◌, ◌≢◌, ℕ, ℤ, pos, suc, zero, ◌+◌, ◌-◌, ◌/◌, ◌%◌, ◌<◌, ◌≤◌, Bool, true, false, cond, ◌||◌, ◌&&◌, eqb, ltb, List, [], ◌∷◌, length, get_or, Option, Some, None, IfSome, Ok, Err, IfOk, option_map, option_and_then, unsigned_abs, refl, subst, arith}
 use Rattle.std.proofs.lemmas.Bool.Decides.{nat_tests}
-use Rattle.mm_text.specs.declared.banner.Banner.{Banner}
-use Rattle.mm_text.specs.declared.banner.Kind.{Kind}
-use Rattle.mm_text.specs.declared.banner.Kind.TheVariants.{Valued, Pattern, Dense}
-use Rattle.mm_text.specs.declared.entries.Cell.{Cell}
+use Rattle.mm_text.specs.Limits.{widest}
+use Rattle.mm_text.specs.declared.reading.banner.Banner.{Banner}
+use Rattle.mm_text.specs.declared.reading.banner.Kind.{Kind}
+use Rattle.mm_text.specs.declared.reading.banner.Kind.TheVariants.{Valued, Pattern, Dense}
+use Rattle.mm_text.specs.declared.reading.entries.Cell.{Cell}
 use Rattle.mm_text.specs.declared.fault.MmFault.{MmFault}
 use Rattle.mm_text.specs.declared.fault.MmFault.TheVariants.{BadLine}
 use Rattle.mm_text.specs.declared.file_data.Line.{Line}
 use Rattle.mm_text.specs.declared.file_data.Mirror.{Mirror}
 use Rattle.mm_text.specs.declared.file_data.Mirror.TheVariants.{Negated}
-use Rattle.mm_text.specs.declared.sizes.Sizes.{Sizes}
+use Rattle.mm_text.specs.declared.reading.sizes.Sizes.{Sizes}
 use Rattle.mm_text.specs.Entries.{all_three, dense_value, entries_of, entry_by, entry_of, is_negated, is_out, narrow, pattern_cell, placed, valued_cell}
 use Rattle.mm_text.specs.Lines.{Text, one_word, three_words, two_words, words_of}
-use Rattle.mm_text.specs.Numerals.{count_of, in_width, value_of, widest}
+use Rattle.mm_text.specs.Numerals.{count_of, in_width, value_of}
 use Rattle.mm_text.specs.Outcomes.{Outcome, ◌>>=◌, or_fault}
 
 -- where there is a value, P holds of it

@@ -1,26 +1,27 @@
 -- A text has only faults of a text.
 use Rattle.std.proofs.Common.{◌≡◌, ℕ, ℤ, Bool, true, false, cond, List, [], ◌∷◌, Option, Some, None, Ok, Err, IfErr, take, drop, length, ◌+◌, leb}
 use Rattle.std.proofs.lemmas.Result.{IfErr-at_err}
-use Rattle.mm_text.specs.declared.banner.Banner.{Banner}
-use Rattle.mm_text.specs.declared.banner.Field.{Field}
-use Rattle.mm_text.specs.declared.banner.Field.TheVariants as field
-use Rattle.mm_text.specs.declared.banner.Kind.{Kind}
-use Rattle.mm_text.specs.declared.banner.Kind.TheVariants as kind
-use Rattle.mm_text.specs.declared.banner.Symmetry.{Symmetry}
-use Rattle.mm_text.specs.declared.banner.Symmetry.TheVariants as symmetry
-use Rattle.mm_text.specs.declared.entries.Cell.{Cell}
+use Rattle.mm_text.specs.Limits.{most_bytes}
+use Rattle.mm_text.specs.declared.reading.banner.Banner.{Banner}
+use Rattle.mm_text.specs.declared.reading.banner.Field.{Field}
+use Rattle.mm_text.specs.declared.reading.banner.Field.TheVariants as field
+use Rattle.mm_text.specs.declared.reading.banner.Kind.{Kind}
+use Rattle.mm_text.specs.declared.reading.banner.Kind.TheVariants as kind
+use Rattle.mm_text.specs.declared.reading.banner.Symmetry.{Symmetry}
+use Rattle.mm_text.specs.declared.reading.banner.Symmetry.TheVariants as symmetry
+use Rattle.mm_text.specs.declared.reading.entries.Cell.{Cell}
 use Rattle.mm_text.specs.declared.fault.MmFault.{MmFault}
 use Rattle.mm_text.specs.declared.fault.MmFault.TheVariants.{ReadFault, NoBanner, BadBanner, WrongForm, BadSize, NotSquare, TooManyEntries, BadLine, OutOfRange, SkewDiagonal, NumberTooWide, TooFew, Extra, TooLong}
 use Rattle.mm_text.specs.declared.file_data.Form.{Form}
 use Rattle.mm_text.specs.declared.file_data.Form.TheVariants as form
 use Rattle.mm_text.specs.declared.file_data.Line.{Line}
 use Rattle.mm_text.specs.declared.file_data.Mirror.{Mirror}
-use Rattle.mm_text.specs.declared.sizes.Sizes.{Sizes}
+use Rattle.mm_text.specs.declared.reading.sizes.Sizes.{Sizes}
 use Rattle.mm_text.specs.Banner.{banner_of, field_named, form_named, kind_of, mirror_of, named, object_named, same_form, supported, symmetry_named}
 use Rattle.mm_text.specs.Entries.{dense_value, entries_of, entry_by, entry_of, narrow, pattern_cell, placed, valued_cell}
 use Rattle.mm_text.specs.Lines.{Text, four_words, kept_from, lines_of, words_of}
 use Rattle.mm_text.specs.Outcomes.{IsTextFault, Outcome, ◌>>=◌, at_end, or_fault}
-use Rattle.mm_text.specs.Reading.{body_of, complete, entries_in, lines_read, most_bytes, no_more, reading, sized}
+use Rattle.mm_text.specs.Reading.{body_of, complete, entries_in, lines_read, no_more, reading, sized}
 use Rattle.mm_text.specs.Sizes.{announced, limited, sizes_of}
 
 record Fits {A : Type 0} (r : Outcome A) : Type 0 where
@@ -89,12 +90,12 @@ banner_fits want [] = bad NoBanner tt
 banner_fits want (mark ∷ words) =
     cond_fits _ _ _ (then_fits (or_fault BadBanner (four_words words)) (named want) (or_fits BadBanner (four_words words) tt) (named_fits want)) (bad NoBanner tt)
 
-limited_fits : (m : Mirror) (room most : ℕ) (s : Sizes) → Fits (limited m room most s)
-limited_fits m room most s = cond_fits _ _ _ (bad BadSize tt) (cond_fits _ _ _ (bad NotSquare tt) (cond_fits _ _ _ (bad TooManyEntries tt) (ok s)))
+limited_fits : (m : Mirror) (profile : Profile) (s : Sizes) → Fits (limited m profile s)
+limited_fits m profile s = cond_fits _ _ _ (bad BadSize tt) (cond_fits _ _ _ (bad NotSquare tt) (cond_fits _ _ _ (bad TooManyEntries tt) (ok s)))
 
-sizes_fits : (banner : Banner) (room most : ℕ) (words : List Text) → Fits (sizes_of banner room most words)
-sizes_fits banner room most words =
-    then_fits (or_fault BadSize (announced banner.kind words)) _ (or_fits BadSize (announced banner.kind words) tt) (limited_fits banner.mirror room most)
+sizes_fits : (banner : Banner) (profile : Profile) (words : List Text) → Fits (sizes_of banner profile words)
+sizes_fits banner profile words =
+    then_fits (or_fault BadSize (announced banner.kind words)) _ (or_fits BadSize (announced banner.kind words) tt) (limited_fits banner.mirror profile)
 
 narrow_fits : (number row col : ℕ) (value : Option ℤ) → Fits (narrow number row col value)
 narrow_fits number row col (Some value) = ok _
@@ -130,20 +131,20 @@ body_fits whole banner s lines =
     (then_fits (entries_of banner s 0 (take s.count lines)) _ (entries_fit banner s 0 (take s.count lines)) (λ found. complete_fits whole s.count found (drop s.count lines)))
     (λ entries. ok _)
 
-sized_fits : (whole : Bool) (room most : ℕ) (banner : Banner) (lines : List (ℕ × Text)) → Fits (sized whole room most banner lines)
-sized_fits whole room most banner [] = at_end_fits whole _ (bad BadSize tt)
-sized_fits whole room most banner (line ∷ lines) =
-    then_fits (sizes_of banner room most (words_of line.1)) _ (sizes_fits banner room most (words_of line.1)) (λ s. body_fits whole banner s lines)
+sized_fits : (whole : Bool) (profile : Profile) (banner : Banner) (lines : List (ℕ × Text)) → Fits (sized whole profile banner lines)
+sized_fits whole profile banner [] = at_end_fits whole _ (bad BadSize tt)
+sized_fits whole profile banner (line ∷ lines) =
+    then_fits (sizes_of banner profile (words_of line.1)) _ (sizes_fits banner profile (words_of line.1)) (λ s. body_fits whole banner s lines)
 
-lines_fit : (whole : Bool) (want : Form) (room most : ℕ) (lines : List Text) → Fits (lines_read whole want room most lines)
-lines_fit whole want room most [] = at_end_fits whole _ (bad NoBanner tt)
-lines_fit whole want room most (first ∷ lines) =
-    then_fits (banner_of want (words_of first)) _ (banner_fits want (words_of first)) (λ banner. sized_fits whole room most banner (kept_from 2 lines))
+lines_fit : (whole : Bool) (profile : Profile) (lines : List Text) → Fits (lines_read whole profile lines)
+lines_fit whole profile [] = at_end_fits whole _ (bad NoBanner tt)
+lines_fit whole profile (first ∷ lines) =
+    then_fits (banner_of want (words_of first)) _ (banner_fits want (words_of first)) (λ banner. sized_fits whole profile banner (kept_from 2 lines))
 
 -- each fault of a text is one of a text
-pub reading_fits : (want : Form) (room most : ℕ) (text : Text) → IfErr (reading want room most text) IsTextFault
+pub reading_fits : (profile : Profile) (text : Text) → IfErr (reading profile text) IsTextFault
 unfolding reading
-reading_fits want room most text = (lines_fit (leb (length text) most_bytes) want room most (lines_of (leb (length text) most_bytes) (take most_bytes text))).holds
+reading_fits profile text = (lines_fit (leb (length text) most_bytes) profile (lines_of (leb (length text) most_bytes) (take most_bytes text))).holds
 
-pub no_read_fault : (want : Form) (room most : ℕ) (text : Text) → reading want room most text ≡ Err ReadFault → ⊥
-no_read_fault want room most text e = IfErr-at_err IsTextFault e (reading_fits want room most text)
+pub no_read_fault : (profile : Profile) (text : Text) → reading profile text ≡ Err ReadFault → ⊥
+no_read_fault profile text e = IfErr-at_err IsTextFault e (reading_fits profile text)

@@ -12,8 +12,7 @@ pub mod PieceLemmas
 pub mod ReadingLemmas
 pub mod SizeLemmas
 mod Examples
-pub mod Taking
-pub mod Writing
+pub mod WrittenLines
 pub mod Orders
 pub mod Decimals
 pub mod Splitting

@@ -4,19 +4,20 @@ use Rattle.std.specs.Prelude.{unsigned_abs, option_map}
 use Rattle.std.specs.Fmt.{signed_decimal}
 use Rattle.std.specs.List.{list_all, join_with_byte, enumerate_from}
 use Rattle.std.proofs.lemmas.Bool.{and_from, le-ltb, ne_eqb}
-use Rattle.mm_text.specs.declared.banner.Banner.{Banner}
-use Rattle.mm_text.specs.declared.banner.Kind.TheVariants.{Valued}
-use Rattle.mm_text.specs.declared.entries.Cell.{Cell}
+use Rattle.mm_text.specs.Limits.{most_bytes, most_cols, widest}
+use Rattle.mm_text.specs.declared.reading.banner.Banner.{Banner}
+use Rattle.mm_text.specs.declared.reading.banner.Kind.TheVariants.{Valued}
+use Rattle.mm_text.specs.declared.reading.entries.Cell.{Cell}
 use Rattle.mm_text.specs.declared.fault.MmFault.TheVariants.{BadSize, BadLine, OutOfRange}
 use Rattle.mm_text.specs.declared.file_data.Line.{Line}
 use Rattle.mm_text.specs.declared.file_data.Mirror.TheVariants.{Plain}
 use Rattle.mm_text.specs.declared.shown.Shown.{Shown}
-use Rattle.mm_text.specs.declared.sizes.Sizes.{Sizes}
+use Rattle.mm_text.specs.declared.reading.sizes.Sizes.{Sizes}
 use Rattle.mm_text.specs.Entries.{entry_of, entries_of, placed, narrow, all_three, is_out}
 use Rattle.mm_text.specs.Lines.{Text, is_comment, is_skipped, kept_from}
-use Rattle.mm_text.specs.Numerals.{count_of, value_of, in_width, widest}
+use Rattle.mm_text.specs.Numerals.{count_of, value_of, in_width}
 use Rattle.mm_text.specs.Outcomes.{Outcome, ◌>>=◌, or_fault}
-use Rattle.mm_text.specs.Sizes.{sizes_of, limited, coordinate_sizes, most_cols}
+use Rattle.mm_text.specs.Sizes.{sizes_of, limited, coordinate_sizes}
 use Rattle.mm_text.specs.Written.{AreWithin, cell_words, value_words, part_lines, banner_words, lines_text, coordinate_text}
 use Rattle.mm_text.specs.WrittenFiles.{entry_of_cell, AreNarrow, file_of_cells, CoordinateTextIsFile}
 use Rattle.mm_text.proofs.Decimals.{is_visible, decimal-visible, count_of-decimal}
@@ -25,7 +26,7 @@ use Rattle.std.proofs.lemmas.List.{length-map}
 use Rattle.std.proofs.lemmas.List.Folds.{list_all-append}
 use Rattle.std.proofs.lemmas.List.FromFn.{length-enumerate_from}
 use Rattle.mm_text.specs.declared.file_data.Form.TheVariants.{Coordinate}
-use Rattle.mm_text.specs.Reading.{reading, lines_read, sized, body_of, most_bytes}
+use Rattle.mm_text.specs.Reading.{reading, lines_read, sized, body_of}
 use Rattle.mm_text.proofs.Rereading.{joined, value_words-visible, are_entries, kept_from-entries, decimal-entry, in_width-written, limited-within, body_of-entries, reading-lines, length-lines_text}
 
 -- the number of the line after the comment of a part

@@ -3,17 +3,18 @@ use Rattle.std.proofs.Common.{◌≡◌, ℕ, ◌+◌, ◌*◌, ◌/◌, ◌%◌
 use Rattle.std.specs.Prelude.{unsigned_abs}
 use Rattle.std.specs.List.{list_all, join_with_byte, enumerate_from}
 use Rattle.std.proofs.lemmas.Bool.{and_from}
-use Rattle.mm_text.specs.declared.banner.Banner.{Banner}
-use Rattle.mm_text.specs.declared.banner.Kind.TheVariants.{Dense}
+use Rattle.mm_text.specs.Limits.{most_bytes, most_cols, widest}
+use Rattle.mm_text.specs.declared.reading.banner.Banner.{Banner}
+use Rattle.mm_text.specs.declared.reading.banner.Kind.TheVariants.{Dense}
 use Rattle.mm_text.specs.declared.fault.MmFault.TheVariants.{BadSize, BadLine}
 use Rattle.mm_text.specs.declared.file_data.Line.{Line}
 use Rattle.mm_text.specs.declared.file_data.Mirror.TheVariants.{Plain}
-use Rattle.mm_text.specs.declared.sizes.Sizes.{Sizes}
+use Rattle.mm_text.specs.declared.reading.sizes.Sizes.{Sizes}
 use Rattle.mm_text.specs.Entries.{entry_of, entries_of, narrow}
 use Rattle.mm_text.specs.Lines.{Text, is_comment}
-use Rattle.mm_text.specs.Numerals.{count_of, widest}
+use Rattle.mm_text.specs.Numerals.{count_of}
 use Rattle.mm_text.specs.Outcomes.{Outcome, ◌>>=◌, or_fault}
-use Rattle.mm_text.specs.Sizes.{sizes_of, limited, array_sizes, most_cols}
+use Rattle.mm_text.specs.Sizes.{sizes_of, limited, array_sizes}
 use Rattle.mm_text.specs.Written.{value_words, banner_words, lines_text, array_text}
 use Rattle.mm_text.specs.WrittenFiles.{entry_of_value, AreNarrow, ArrayTextIsFile, file_of_values}
 use Rattle.mm_text.proofs.Decimals.{is_visible, decimal-visible, count_of-decimal}
@@ -21,7 +22,7 @@ use Rattle.mm_text.proofs.Splitting.{are_visible, words_of-words}
 use Rattle.std.proofs.lemmas.List.{length-map}
 use Rattle.std.proofs.lemmas.List.FromFn.{length-enumerate_from}
 use Rattle.mm_text.specs.declared.file_data.Form.TheVariants.{Array}
-use Rattle.mm_text.specs.Reading.{reading, lines_read, sized, body_of, most_bytes}
+use Rattle.mm_text.specs.Reading.{reading, lines_read, sized, body_of}
 use Rattle.mm_text.proofs.Rereading.{joined, value_words-visible, are_entries, kept_from-entries, decimal-entry, in_width-written, limited-within, body_of-entries, reading-lines}
 
 abbrev array_banner : Banner

@@ -4,23 +4,24 @@ use Rattle.std.specs.Prelude.{unsigned_abs, option_map}
 use Rattle.std.specs.Fmt.{signed_decimal}
 use Rattle.std.specs.List.{list_all, join_with_byte, enumerate_from}
 use Rattle.std.proofs.lemmas.Bool.{and_parts, and_from, le-ltb, le-leb, ne_eqb}
-use Rattle.mm_text.specs.declared.banner.Banner.{Banner}
+use Rattle.mm_text.specs.Limits.{most_bytes, most_cols, widest}
+use Rattle.mm_text.specs.declared.reading.banner.Banner.{Banner}
 use Rattle.mm_text.specs.declared.fault.MmFault.TheVariants.{BadSize, TooManyEntries, TooFew}
 use Rattle.mm_text.specs.declared.file_data.Line.{Line}
 use Rattle.mm_text.specs.declared.file_data.Mirror.TheVariants.{Plain}
-use Rattle.mm_text.specs.declared.sizes.Sizes.{Sizes}
+use Rattle.mm_text.specs.declared.reading.sizes.Sizes.{Sizes}
 use Rattle.mm_text.specs.Entries.{entries_of, narrow}
 use Rattle.mm_text.specs.Lines.{Text, is_comment, is_skipped, kept_from, lines_of}
-use Rattle.mm_text.specs.Numerals.{value_of, in_width, widest}
+use Rattle.mm_text.specs.Numerals.{value_of, in_width}
 use Rattle.mm_text.specs.Outcomes.{Outcome, ◌>>=◌}
-use Rattle.mm_text.specs.Sizes.{limited, most_cols}
+use Rattle.mm_text.specs.Sizes.{limited}
 use Rattle.mm_text.specs.Written.{value_words, lines_text, line_text}
 use Rattle.mm_text.proofs.Decimals.{is_visible, signed_decimal-visible, first-decimal, value_of-signed_decimal, in_width-narrow}
 use Rattle.mm_text.proofs.Splitting.{are_visible, words_of-words, lines_of-lines}
 use Rattle.std.proofs.Math.Seq.{drop-length}
 use Rattle.std.proofs.lemmas.List.{take_all}
 use Rattle.mm_text.specs.declared.file_data.Form.{Form}
-use Rattle.mm_text.specs.Reading.{File, reading, lines_read, body_of, complete, no_more, most_bytes}
+use Rattle.mm_text.specs.Reading.{File, reading, lines_read, body_of, complete, no_more}
 
 -- the lines of these words
 abbrev pub joined : List (List Text) → List Text

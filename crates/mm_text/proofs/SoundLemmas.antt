@@ -4,27 +4,28 @@ use Rattle.std.proofs.Math.Nat.{div-lt_iff_lt-mul, mul_comm, zero-mul}
 use Rattle.std.proofs.lemmas.Bool.Decides.{nat_tests}
 use Rattle.std.proofs.lemmas.List.{length-take}
 use Rattle.std.proofs.lemmas.Result.{IfOk-at_ok}
-use Rattle.mm_text.specs.declared.banner.Banner.{Banner}
-use Rattle.mm_text.specs.declared.banner.Field.{Field}
-use Rattle.mm_text.specs.declared.banner.Field.TheVariants as field
-use Rattle.mm_text.specs.declared.banner.Kind.{Kind}
-use Rattle.mm_text.specs.declared.banner.Kind.TheVariants as kind
-use Rattle.mm_text.specs.declared.banner.Symmetry.{Symmetry}
-use Rattle.mm_text.specs.declared.banner.Symmetry.TheVariants as symmetry
+use Rattle.mm_text.specs.Limits.{most_bytes, most_cols, widest}
+use Rattle.mm_text.specs.declared.reading.banner.Banner.{Banner}
+use Rattle.mm_text.specs.declared.reading.banner.Field.{Field}
+use Rattle.mm_text.specs.declared.reading.banner.Field.TheVariants as field
+use Rattle.mm_text.specs.declared.reading.banner.Kind.{Kind}
+use Rattle.mm_text.specs.declared.reading.banner.Kind.TheVariants as kind
+use Rattle.mm_text.specs.declared.reading.banner.Symmetry.{Symmetry}
+use Rattle.mm_text.specs.declared.reading.banner.Symmetry.TheVariants as symmetry
 use Rattle.mm_text.specs.declared.fault.MmFault.TheVariants.{BadBanner, BadSize, NoBanner, NotSquare, Extra, TooLong, TooFew, TooManyEntries, WrongForm}
 use Rattle.mm_text.specs.declared.file_data.Form.{Form}
 use Rattle.mm_text.specs.declared.file_data.Form.TheVariants as form
 use Rattle.mm_text.specs.declared.file_data.Line.{Line}
 use Rattle.mm_text.specs.declared.file_data.Mirror.{Mirror}
 use Rattle.mm_text.specs.declared.file_data.Mirror.TheVariants as mirror
-use Rattle.mm_text.specs.declared.sizes.Sizes.{Sizes}
+use Rattle.mm_text.specs.declared.reading.sizes.Sizes.{Sizes}
 use Rattle.mm_text.specs.Banner.{banner_of, field_named, form_named, kind_of, mirror_of, named, object_named, supported, symmetry_named}
 use Rattle.mm_text.specs.Entries.{entries_of}
 use Rattle.mm_text.specs.Lines.{Text, four_words, two_words, kept_from, lines_of, words_of}
-use Rattle.mm_text.specs.Numerals.{count_of, widest}
+use Rattle.mm_text.specs.Numerals.{count_of}
 use Rattle.mm_text.specs.Outcomes.{Outcome, at_end, or_fault}
-use Rattle.mm_text.specs.Reading.{File, body_of, complete, entries_in, lines_read, most_bytes, no_more, reading, sized}
-use Rattle.mm_text.specs.Sizes.{announced, array_announced, array_sizes, is_plain, limited, most_cols, sizes_of}
+use Rattle.mm_text.specs.Reading.{File, body_of, complete, entries_in, lines_read, no_more, reading, sized}
+use Rattle.mm_text.specs.Sizes.{announced, array_announced, array_sizes, is_plain, limited, sizes_of}
 use Rattle.mm_text.specs.Sound.{IsSound}
 use Rattle.mm_text.proofs.EntrySoundLemmas.{AreEntries, Good, IsEntryBy, entries_good, good_bad, good_cond, good_ok, good_then, good_weaker}
 
@@ -75,7 +76,7 @@ banner_good want (mark ∷ words) =
     (λ _. good_bad (FitsForm want) NoBanner)
 
 -- sizes within the limits
-record FitsSizes (m : Mirror) (room most : ℕ) (s : Sizes) : Type 0 where
+record FitsSizes (m : Mirror) (profile : Profile) (s : Sizes) : Type 0 where
   rows : s.rows ≤ most
   cols : s.cols ≤ most_cols
   count : s.count ≤ room
@@ -92,12 +93,12 @@ squared mirror.Plain x y e h = absurd (h refl)
 squared mirror.Same x y e h = grind (arith, nat_tests)
 squared mirror.Negated x y e h = grind (arith, nat_tests)
 
-limited_good : (m : Mirror) (room most : ℕ) (s : Sizes) (P : Sizes → Type 0) → P s → Good (λ t. FitsSizes m room most t × P t) (limited m room most s)
-limited_good m room most s P p =
-    good_cond (λ t. FitsSizes m room most t × P t) (ltb most s.rows || ltb most_cols s.cols) _ _ (λ _. good_bad (λ t. FitsSizes m room most t × P t) BadSize) (λ a.
-    good_cond (λ t. FitsSizes m room most t × P t) (not (is_plain m) && not (eqb s.rows s.cols)) _ _ (λ _. good_bad (λ t. FitsSizes m room most t × P t) NotSquare) (λ b.
-    good_cond (λ t. FitsSizes m room most t × P t) (ltb room s.count) _ _ (λ _. good_bad (λ t. FitsSizes m room most t × P t) TooManyEntries) (λ c.
-    good_ok (λ t. FitsSizes m room most t × P t) s (
+limited_good : (m : Mirror) (profile : Profile) (s : Sizes) (P : Sizes → Type 0) → P s → Good (λ t. FitsSizes m profile t × P t) (limited m profile s)
+limited_good m profile s P p =
+    good_cond (λ t. FitsSizes m profile t × P t) (ltb most s.rows || ltb most_cols s.cols) _ _ (λ _. good_bad (λ t. FitsSizes m profile t × P t) BadSize) (λ a.
+    good_cond (λ t. FitsSizes m profile t × P t) (not (is_plain m) && not (eqb s.rows s.cols)) _ _ (λ _. good_bad (λ t. FitsSizes m profile t × P t) NotSquare) (λ b.
+    good_cond (λ t. FitsSizes m profile t × P t) (ltb room s.count) _ _ (λ _. good_bad (λ t. FitsSizes m profile t × P t) TooManyEntries) (λ c.
+    good_ok (λ t. FitsSizes m profile t × P t) s (
       record {
         rows = (either most most_cols s.rows s.cols a).0;
         cols = (either most most_cols s.rows s.cols a).1;
@@ -138,16 +139,16 @@ or_places k (Some s) h = good_ok (AllPlaces k) s h
 or_places k None h = good_bad (AllPlaces k) BadSize
 
 -- the sizes of a size line
-record AreSizes (banner : Banner) (room most : ℕ) (s : Sizes) : Type 0 where
-  fits : FitsSizes banner.mirror room most s
+record AreSizes (banner : Banner) (profile : Profile) (s : Sizes) : Type 0 where
+  fits : FitsSizes banner.mirror profile s
   places : AllPlaces banner.kind s
 
-sizes_good : (banner : Banner) (room most : ℕ) (words : List Text) → Good (AreSizes banner room most) (sizes_of banner room most words)
-sizes_good banner room most words =
-    good_then (AllPlaces banner.kind) (AreSizes banner room most) (or_fault BadSize (announced banner.kind words)) _
+sizes_good : (banner : Banner) (profile : Profile) (words : List Text) → Good (AreSizes banner profile) (sizes_of banner profile words)
+sizes_good banner profile words =
+    good_then (AllPlaces banner.kind) (AreSizes banner profile) (or_fault BadSize (announced banner.kind words)) _
     (or_places banner.kind (announced banner.kind words) (announced_places banner.kind words)) (λ s p.
-    good_weaker _ (AreSizes banner room most) (limited banner.mirror room most s) (λ t h. record { fits = h.0; places = h.1 })
-    (limited_good banner.mirror room most s (AllPlaces banner.kind) p))
+    good_weaker _ (AreSizes banner profile) (limited banner.mirror profile s) (λ t h. record { fits = h.0; places = h.1 })
+    (limited_good banner.mirror profile s (AllPlaces banner.kind) p))
 
 at_end_good : {A : Type 0} (P : A → Type 0) (whole : Bool) (r : Outcome A) → Good P r → Good P (at_end whole r)
 at_end_good P true r h = h
@@ -224,9 +225,9 @@ dense_place kind.Pattern m s at line e is = absurd (cc)
 abbrev file_with : Banner → Sizes → List Line → File
 file_with banner s entries = record { rows = s.rows; cols = s.cols; mirror = banner.mirror; lines = entries }
 
-sound_of : (want : Form) (room most : ℕ) (banner : Banner) (s : Sizes) (entries : List Line) → FitsForm want banner → AreSizes banner room most s → AreAll banner s entries
-    → IsSound want room most (file_with banner s entries)
-sound_of want room most banner s entries form' sizes all = record {
+sound_of : (profile : Profile) (banner : Banner) (s : Sizes) (entries : List Line) → FitsForm want banner → AreSizes banner profile s → AreAll banner s entries
+    → IsSound profile (file_with banner s entries)
+sound_of profile banner s entries form' sizes all = record {
   rows = sizes.fits.rows;
   cols = sizes.fits.cols;
   count = omega (arith, all.count, sizes.fits.count);
@@ -241,27 +242,27 @@ sound_of want room most banner s entries form' sizes all = record {
   };
 }
 
-body_good : (want : Form) (room most : ℕ) (whole : Bool) (banner : Banner) (s : Sizes) (lines : List (ℕ × Text)) → FitsForm want banner → AreSizes banner room most s
-    → Good (IsSound want room most) (body_of whole banner s lines)
-body_good want room most whole banner s lines form' sizes =
-    good_then (AreAll banner s) (IsSound want room most) (entries_in whole banner s lines) _ (entries_in_good whole banner s lines) (λ entries all.
-    good_ok (IsSound want room most) (file_with banner s entries) (sound_of want room most banner s entries form' sizes all))
+body_good : (profile : Profile) (whole : Bool) (banner : Banner) (s : Sizes) (lines : List (ℕ × Text)) → FitsForm want banner → AreSizes banner profile s
+    → Good (IsSound profile) (body_of whole banner s lines)
+body_good profile whole banner s lines form' sizes =
+    good_then (AreAll banner s) (IsSound profile) (entries_in whole banner s lines) _ (entries_in_good whole banner s lines) (λ entries all.
+    good_ok (IsSound profile) (file_with banner s entries) (sound_of profile banner s entries form' sizes all))
 
-sized_good : (want : Form) (room most : ℕ) (whole : Bool) (banner : Banner) (lines : List (ℕ × Text)) → FitsForm want banner
-    → Good (IsSound want room most) (sized whole room most banner lines)
-sized_good want room most whole banner [] form' = at_end_good (IsSound want room most) whole _ (good_bad (IsSound want room most) BadSize)
-sized_good want room most whole banner (line ∷ lines) form' =
-    good_then (AreSizes banner room most) (IsSound want room most) (sizes_of banner room most (words_of line.1)) _ (sizes_good banner room most (words_of line.1)) (λ s sizes.
-    body_good want room most whole banner s lines form' sizes)
+sized_good : (profile : Profile) (whole : Bool) (banner : Banner) (lines : List (ℕ × Text)) → FitsForm want banner
+    → Good (IsSound profile) (sized whole profile banner lines)
+sized_good profile whole banner [] form' = at_end_good (IsSound profile) whole _ (good_bad (IsSound profile) BadSize)
+sized_good profile whole banner (line ∷ lines) form' =
+    good_then (AreSizes banner profile) (IsSound profile) (sizes_of banner profile (words_of line.1)) _ (sizes_good banner profile (words_of line.1)) (λ s sizes.
+    body_good profile whole banner s lines form' sizes)
 
-lines_good : (want : Form) (room most : ℕ) (whole : Bool) (lines : List Text) → Good (IsSound want room most) (lines_read whole want room most lines)
-lines_good want room most whole [] = at_end_good (IsSound want room most) whole _ (good_bad (IsSound want room most) NoBanner)
-lines_good want room most whole (first ∷ lines) =
-    good_then (FitsForm want) (IsSound want room most) (banner_of want (words_of first)) _ (banner_good want (words_of first)) (λ banner form'.
-    sized_good want room most whole banner (kept_from 2 lines) form')
+lines_good : (profile : Profile) (whole : Bool) (lines : List Text) → Good (IsSound profile) (lines_read whole profile lines)
+lines_good profile whole [] = at_end_good (IsSound profile) whole _ (good_bad (IsSound profile) NoBanner)
+lines_good profile whole (first ∷ lines) =
+    good_then (FitsForm want) (IsSound profile) (banner_of want (words_of first)) _ (banner_good want (words_of first)) (λ banner form'.
+    sized_good profile whole banner (kept_from 2 lines) form')
 
 -- what is read is sound
-pub reading_sound : (want : Form) (room most : ℕ) (text : Text) (file : File) → reading want room most text ≡ Ok file → IsSound want room most file
+pub reading_sound : (profile : Profile) (text : Text) (file : File) → reading profile text ≡ Ok file → IsSound profile file
 unfolding reading
-reading_sound want room most text file e =
-    IfOk-at_ok (IsSound want room most) e (lines_good want room most (leb (length text) most_bytes) (lines_of (leb (length text) most_bytes) (take most_bytes text))).holds
+reading_sound profile text file e =
+    IfOk-at_ok (IsSound profile) e (lines_good profile (leb (length text) most_bytes) (lines_of (leb (length text) most_bytes) (take most_bytes text))).holds

@@ -1,13 +1,13 @@
 -- The banner: NIST Matrix Market exchange formats, line 1.
 use Rattle.std.specs.Prelude.{Bool, true, false, List, [], ◌∷◌, Option, Some, None, Ok, Err, codes, bytes_eq, if◌then◌else◌}
 use Rattle.std.specs.Str.{str_eq_ignore_ascii_case}
-use Rattle.mm_text.specs.declared.banner.Banner.{Banner}
-use Rattle.mm_text.specs.declared.banner.Field.{Field}
-use Rattle.mm_text.specs.declared.banner.Field.TheVariants as field
-use Rattle.mm_text.specs.declared.banner.Kind.{Kind}
-use Rattle.mm_text.specs.declared.banner.Kind.TheVariants as kind
-use Rattle.mm_text.specs.declared.banner.Symmetry.{Symmetry}
-use Rattle.mm_text.specs.declared.banner.Symmetry.TheVariants as symmetry
+use Rattle.mm_text.specs.declared.reading.banner.Banner.{Banner}
+use Rattle.mm_text.specs.declared.reading.banner.Field.{Field}
+use Rattle.mm_text.specs.declared.reading.banner.Field.TheVariants as field
+use Rattle.mm_text.specs.declared.reading.banner.Kind.{Kind}
+use Rattle.mm_text.specs.declared.reading.banner.Kind.TheVariants as kind
+use Rattle.mm_text.specs.declared.reading.banner.Symmetry.{Symmetry}
+use Rattle.mm_text.specs.declared.reading.banner.Symmetry.TheVariants as symmetry
 use Rattle.mm_text.specs.declared.fault.MmFault.TheVariants.{NoBanner, BadBanner, UnsupportedField, UnsupportedSymmetry, WrongForm}
 use Rattle.mm_text.specs.declared.file_data.Form.{Form}
 use Rattle.mm_text.specs.declared.file_data.Form.TheVariants as form

@@ -1,7 +1,7 @@
 -- Numbers as the code holds them: none above 2^64 - 1.
 use Rattle.std.specs.Prelude.{◌-◌, ◌^◌, ℕ, min}
-use Rattle.mm_text.specs.declared.entries.Cell.{Cell}
-use Rattle.mm_text.specs.declared.sizes.Sizes.{Sizes}
+use Rattle.mm_text.specs.declared.reading.entries.Cell.{Cell}
+use Rattle.mm_text.specs.declared.reading.sizes.Sizes.{Sizes}
 
 abbrev pub cut : ℕ → ℕ
 cut n = min n (2 ^ 64 - 1)

@@ -1,14 +1,14 @@
 -- The entry lines.
 use Rattle.std.specs.Prelude.{◌==◌, ◌&&◌, ◌||◌, ◌+◌, ◌-◌, ◌/◌, ◌%◌, ℕ, ℤ, pos, Bool, true, false, List, [], ◌∷◌, Option, Some, None, Ok, Err, nat_lt, option_and_then, option_map, if◌then◌else◌}
-use Rattle.mm_text.specs.declared.banner.Banner.{Banner}
-use Rattle.mm_text.specs.declared.banner.Kind.{Kind}
-use Rattle.mm_text.specs.declared.banner.Kind.TheVariants as kind
-use Rattle.mm_text.specs.declared.entries.Cell.{Cell}
+use Rattle.mm_text.specs.declared.reading.banner.Banner.{Banner}
+use Rattle.mm_text.specs.declared.reading.banner.Kind.{Kind}
+use Rattle.mm_text.specs.declared.reading.banner.Kind.TheVariants as kind
+use Rattle.mm_text.specs.declared.reading.entries.Cell.{Cell}
 use Rattle.mm_text.specs.declared.fault.MmFault.TheVariants.{BadLine, OutOfRange, SkewDiagonal, NumberTooWide}
 use Rattle.mm_text.specs.declared.file_data.Line.{Line}
 use Rattle.mm_text.specs.declared.file_data.Mirror.{Mirror}
 use Rattle.mm_text.specs.declared.file_data.Mirror.TheVariants as mirror
-use Rattle.mm_text.specs.declared.sizes.Sizes.{Sizes}
+use Rattle.mm_text.specs.declared.reading.sizes.Sizes.{Sizes}
 use Rattle.mm_text.specs.Lines.{Text, one_word, two_words, three_words, words_of}
 use Rattle.mm_text.specs.Numerals.{count_of, value_of, in_width}
 use Rattle.mm_text.specs.Outcomes.{Outcome, ◌>>=◌, or_fault}

@@ -1,6 +1,6 @@
-pub mod Taken
 pub mod Written
 pub mod WrittenFiles
+pub mod Limits
 pub mod Lines
 pub mod Numerals
 pub mod Outcomes

@@ -1,7 +1,8 @@
 -- Counts and values in decimal digits.
-use Rattle.std.specs.Prelude.{◌&&◌, ◌-◌, ◌^◌, ℕ, ℤ, pos, neg_ℤ, Option, Some, None, nat_lt, option_map, unsigned_abs, if◌then◌else◌}
+use Rattle.std.specs.Prelude.{◌&&◌, ℕ, ℤ, pos, neg_ℤ, Option, Some, None, nat_lt, option_map, unsigned_abs, if◌then◌else◌}
 use Rattle.std.specs.Str.{all_ascii_digits}
 use Rattle.std.specs.Str.Parse.{digits_value, starts_with_minus, without_leading_plus, without_leading_sign}
+use Rattle.mm_text.specs.Limits.{widest}
 use Rattle.mm_text.specs.Lines.{Text, is_word}
 
 -- one or more decimal digits
@@ -18,10 +19,6 @@ with_sign_of word magnitude = if starts_with_minus word then neg_ℤ (pos magnit
 -- digits behind a plus, a minus or nothing
 abbrev pub value_of : Text → Option ℤ
 value_of word = option_map (with_sign_of word) (digits_of (without_leading_sign word))
-
--- the greatest magnitude of a value
-abbrev pub widest : ℕ
-widest = 2 ^ 127 - 1
 
 -- a value whose magnitude is not above the greatest
 abbrev pub in_width : ℤ → Option ℤ

@@ -1,13 +1,13 @@
 -- What a text is read as: a file, or its first fault.
 use Rattle.std.specs.Prelude.{◌≡◌, ℕ, Bool, List, [], ◌∷◌, Ok, Err, length, take, drop, nat_lt, nat_le, if◌then◌else◌}
-use Rattle.mm_text.specs.declared.banner.Banner.{Banner}
+use Rattle.mm_text.specs.declared.reading.banner.Banner.{Banner}
 use Rattle.mm_text.specs.declared.fault.MmFault.{MmFault}
 use Rattle.mm_text.specs.declared.fault.MmFault.TheVariants.{NoBanner, BadSize, TooFew, Extra}
 use Rattle.mm_text.specs.declared.file_data.FileData.{FileData}
-use Rattle.mm_text.specs.declared.file_data.Form.{Form}
 use Rattle.mm_text.specs.declared.file_data.Line.{Line}
 use Rattle.mm_text.specs.declared.file_data.Mirror.{Mirror}
-use Rattle.mm_text.specs.declared.sizes.Sizes.{Sizes}
+use Rattle.mm_text.specs.declared.profile.Profile.{Profile}
+use Rattle.mm_text.specs.declared.reading.sizes.Sizes.{Sizes}
 use Rattle.mm_text.specs.Banner.{banner_of}
 use Rattle.mm_text.specs.Entries.{entries_of}
 use Rattle.mm_text.specs.Lines.{Text, lines_of, words_of, kept_from}
@@ -23,10 +23,6 @@ pub record File : Type 0 where
 
 abbrev pub file_of : FileData → File
 file_of f = record { rows = f.rows; cols = f.cols; mirror = f.mirror; lines = f.lines.items }
-
--- the most bytes of a file
-abbrev pub most_bytes : ℕ
-most_bytes = 536870912
 
 -- the entries, where no line is left over
 abbrev pub no_more : Bool → List Line → List (ℕ × Text) → Outcome (List Line)
@@ -51,30 +47,30 @@ body_of whole banner s lines = do
   Ok (record { rows = s.rows; cols = s.cols; mirror = banner.mirror; lines = entries })
 
 -- the file of a banner and of the lines after it that are not skipped
-abbrev pub sized : Bool → ℕ → ℕ → Banner → List (ℕ × Text) → Outcome File
-sized whole room most banner [] = at_end whole (Err BadSize)
-sized whole room most banner (line ∷ lines) = do
-  s ← sizes_of banner room most (words_of line.1)
+abbrev pub sized : Bool → Profile → Banner → List (ℕ × Text) → Outcome File
+sized whole profile banner [] = at_end whole (Err BadSize)
+sized whole profile banner (line ∷ lines) = do
+  s ← sizes_of banner profile (words_of line.1)
   body_of whole banner s lines
 
 -- the file of these lines
-abbrev pub lines_read : Bool → Form → ℕ → ℕ → List Text → Outcome File
-lines_read whole want room most [] = at_end whole (Err NoBanner)
-lines_read whole want room most (first ∷ lines) = do
-  banner ← banner_of want (words_of first)
-  sized whole room most banner (kept_from 2 lines)
+abbrev pub lines_read : Bool → Profile → List Text → Outcome File
+lines_read whole profile [] = at_end whole (Err NoBanner)
+lines_read whole profile (first ∷ lines) = do
+  banner ← banner_of profile.form (words_of first)
+  sized whole profile banner (kept_from 2 lines)
 
 -- the file of a text, or its first fault in file order; of a text that is too long, those lines are read that end
 -- within the most bytes
-unfoldable pub reading : Form → ℕ → ℕ → Text → Outcome File
-reading want room most text =
-    let whole = nat_le (length text) most_bytes in
-    lines_read whole want room most (lines_of whole (take most_bytes text))
+unfoldable pub reading : Profile → Text → Outcome File
+reading profile text =
+    let whole = nat_le (length text) profile.bytes in
+    lines_read whole profile (lines_of whole (take profile.bytes text))
 
--- the text is this file, in the form that is wanted, with at most `room` entries and `most` rows
-abbrev pub IsFile : Form → ℕ → ℕ → Text → File → Type 0
-IsFile want room most text file = reading want room most text ≡ Ok file
+-- the text is this file, in the form of the profile and within its limits
+abbrev pub IsFile : Profile → Text → File → Type 0
+IsFile profile text file = reading profile text ≡ Ok file
 
 -- the text has this fault, and none before it
-abbrev pub HasFault : Form → ℕ → ℕ → Text → MmFault → Type 0
-HasFault want room most text fault = reading want room most text ≡ Err fault
+abbrev pub HasFault : Profile → Text → MmFault → Type 0
+HasFault profile text fault = reading profile text ≡ Err fault

@@ -1,19 +1,16 @@
 -- The size line.
 use Rattle.std.specs.Prelude.{◌==◌, ◌&&◌, ◌||◌, ◌*◌, ℕ, Bool, true, false, List, Option, Some, None, Ok, Err, nat_lt, not, option_and_then, if◌then◌else◌}
-use Rattle.mm_text.specs.declared.banner.Banner.{Banner}
-use Rattle.mm_text.specs.declared.banner.Kind.{Kind}
-use Rattle.mm_text.specs.declared.banner.Kind.TheVariants as kind
+use Rattle.mm_text.specs.declared.reading.banner.Banner.{Banner}
+use Rattle.mm_text.specs.declared.reading.banner.Kind.{Kind}
+use Rattle.mm_text.specs.declared.reading.banner.Kind.TheVariants as kind
 use Rattle.mm_text.specs.declared.fault.MmFault.TheVariants.{BadSize, NotSquare, TooManyEntries}
 use Rattle.mm_text.specs.declared.file_data.Mirror.{Mirror}
 use Rattle.mm_text.specs.declared.file_data.Mirror.TheVariants as mirror
-use Rattle.mm_text.specs.declared.sizes.Sizes.{Sizes}
+use Rattle.mm_text.specs.declared.profile.Profile.{Profile}
+use Rattle.mm_text.specs.declared.reading.sizes.Sizes.{Sizes}
 use Rattle.mm_text.specs.Lines.{Text, two_words, three_words}
 use Rattle.mm_text.specs.Numerals.{count_of}
 use Rattle.mm_text.specs.Outcomes.{Outcome, ◌>>=◌, or_fault}
-
--- the most columns
-abbrev pub most_cols : ℕ
-most_cols = 16777216
 
 abbrev pub array_sizes : Option ℕ → Option ℕ → Option Sizes
 array_sizes (Some m) (Some n) = Some (record { rows = m; cols = n; count = m * n })
@@ -42,13 +39,13 @@ is_plain mirror.Plain = true
 is_plain _ = false
 
 -- within the limits, and square where the file has a symmetry
-abbrev pub limited : Mirror → ℕ → ℕ → Sizes → Outcome Sizes
-limited m room most s =
-    if nat_lt most s.rows || nat_lt most_cols s.cols then Err BadSize
+abbrev pub limited : Mirror → Profile → Sizes → Outcome Sizes
+limited m profile s =
+    if nat_lt profile.rows s.rows || nat_lt profile.cols s.cols then Err BadSize
     else (if not (is_plain m) && not (s.rows == s.cols) then Err NotSquare
-    else (if nat_lt room s.count then Err TooManyEntries else Ok s))
+    else (if nat_lt profile.entries s.count then Err TooManyEntries else Ok s))
 
-abbrev pub sizes_of : Banner → ℕ → ℕ → List Text → Outcome Sizes
-sizes_of banner room most words = do
+abbrev pub sizes_of : Banner → Profile → List Text → Outcome Sizes
+sizes_of banner profile words = do
   s ← or_fault BadSize (announced banner.kind words)
-  limited banner.mirror room most s
+  limited banner.mirror profile s

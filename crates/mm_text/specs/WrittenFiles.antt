@@ -1,13 +1,12 @@
 -- The files that the written texts are.
-use Rattle.std.specs.Prelude.{ℕ, ℤ, ◌/◌, ◌%◌, ◌*◌, ◌^◌, ◌≡◌, ◌≤◌, List, Option, All, length, map, unsigned_abs}
+use Rattle.std.specs.Prelude.{ℕ, ℤ, ◌/◌, ◌%◌, ◌*◌, ◌≡◌, ◌≤◌, List, Option, All, length, map, unsigned_abs}
 use Rattle.std.specs.List.{enumerate_from}
+use Rattle.mm_text.specs.Limits.{most_bytes, most_cols, most_rows, profile_of, widest}
 use Rattle.mm_text.specs.declared.file_data.Form.TheVariants.{Coordinate, Array}
 use Rattle.mm_text.specs.declared.file_data.Line.{Line}
 use Rattle.mm_text.specs.declared.file_data.Mirror.TheVariants.{Plain}
 use Rattle.mm_text.specs.declared.shown.Shown.{Shown}
-use Rattle.mm_text.specs.Numerals.{widest}
-use Rattle.mm_text.specs.Reading.{File, IsFile, most_bytes}
-use Rattle.mm_text.specs.Sizes.{most_cols}
+use Rattle.mm_text.specs.Reading.{File, IsFile}
 use Rattle.mm_text.specs.Written.{AreWithin, coordinate_text, array_text}
 
 -- a place as the entry of a file
@@ -35,10 +34,10 @@ AreNarrow values = All (λ value. unsigned_abs value ≤ widest) values
 abbrev pub CoordinateTextIsFile : Type 0
 CoordinateTextIsFile =
     (rows cols room most : ℕ) (part : Option ℕ) (cells : List Shown)
-    → rows ≤ most → most ≤ 2 ^ 40 → cols ≤ most_cols → length cells ≤ room
+    → rows ≤ most → most ≤ most_rows → cols ≤ most_cols → length cells ≤ room
     → AreWithin rows cols cells → AreNarrow (map (λ cell. cell.value) cells)
     → length (coordinate_text rows cols part cells) ≤ most_bytes
-    → IsFile Coordinate room most (coordinate_text rows cols part cells) (file_of_cells rows cols cells)
+    → IsFile (profile_of Coordinate room most) (coordinate_text rows cols part cells) (file_of_cells rows cols cells)
 
 -- array text is read as the file of its values
 abbrev pub ArrayTextIsFile : Type 0
@@ -46,4 +45,4 @@ ArrayTextIsFile =
     (rows cols room most : ℕ) (values : List ℤ)
     → rows ≤ most → rows ≤ most_cols → cols ≤ most_cols → length values ≡ rows * cols → length values ≤ room
     → AreNarrow values → length (array_text rows cols values) ≤ most_bytes
-    → IsFile Array room most (array_text rows cols values) (file_of_values rows cols values)
+    → IsFile (profile_of Array room most) (array_text rows cols values) (file_of_values rows cols values)

@@ -4,32 +4,24 @@
 //! What a text is read as, its file or its first fault, is the definition `reading` in specs/; the reader answers it. What
 //! the writers write is read again as the same entries. Rows and columns are counted from 1 in a text and from 0 in
 //! values. The crate stands on `outside`; `model_defs`, `gathered_rows` and `tpx` stand on it.
+//!
+//! ```
+//! let found = read_matrix(alloc, &mut files, "a.mtx", Form::Coordinate, 8_388_608, 16_777_216)?;
+//! write_coordinate(&mut out, found.rows, found.cols, None, &cells)?;
+//! ```
 #![tactic(auto)]
 
-mod banner;
-mod entries;
 mod fault;
 mod file_data;
 pub mod laws;
-mod lines;
-mod numerals;
-mod read;
+mod profile;
+mod reading;
 mod shown;
-mod sizes;
-#[cfg(test)]
-mod tests;
-mod text;
-mod words;
-mod write;
-mod write_bytes;
-mod write_line;
-mod write_page;
-#[cfg(test)]
-mod write_tests;
+mod writing;
 
 pub use fault::MmFault;
 pub use file_data::{FileData, Form, Line, Mirror};
-pub use read::read_matrix;
+pub use outside::SinkFault;
+pub use reading::matrix::read_matrix;
 pub use shown::Shown;
-pub use write::{write_array, write_coordinate};
-pub use write_bytes::{SinkFault, write_all};
+pub use writing::text::{write_array, write_coordinate};

@@ -19,3 +19,11 @@ pub record Reads {F : Type 0} (told : F → Option Source) (faults : F → List 
   pub never_falls : (n : List ℕ) → faults old n ≤ faults new n
   pub fault : Failed → Rose (faults old name) (faults new name)
   pub no_fault : (Failed → ⊥) → (n : List ℕ) → faults new n ≡ faults old n
+
+-- Some source that agrees with what files tell has a text of this name with the property `P`.
+pub record HasText (told : Option Source) (name : List ℕ) (P : List ℕ → Type 0) : Type 0 where
+  pub source : Source
+  pub agrees : AgreesWith told source
+  pub text : List ℕ
+  pub named : source name ≡ Some text
+  pub holds : P text

@@ -4,4 +4,4 @@ use Rattle.mm_text.proofs.FaultLemmas.{reading_fits}
 use Rattle.mm_text.proofs.laws.text_faults.Goals as goal
 
 pub returns : goal.returns
-returns c = λ want room most text fault has. IfErr-at_err IsTextFault has (reading_fits want room most text)
+returns c = λ profile text fault has. IfErr-at_err IsTextFault has (reading_fits profile text)

@@ -1,0 +1,12 @@
+use Rattle.std.proofs.Common.{◌≡◌, ◌-◌, ◌^◌, ◌≤◌, min, drop}
+use Rattle.std.specs.Str.{all_ascii_digits}
+use Rattle.std.specs.Str.Parse.{digits_value, digits_value_after}
+use Rattle.mm_text.proofs.reading.numerals.digits.Given as goal
+
+-- the number so far, with the rest, is that of all digits, and the rest are digits where all are
+abbrev pub invariant-loop-byte : goal.invariant-loop-byte
+invariant-loop-byte l = record {
+  fits : l.number ≤ 2 ^ 64 - 1;
+  value : min (digits_value_after 10 l.number (drop l.byte-index l.word)) (2 ^ 64 - 1) ≡ min (digits_value 10 l.word) (2 ^ 64 - 1);
+  digits : all_ascii_digits (drop l.byte-index l.word) ≡ all_ascii_digits l.word;
+}

@@ -1,5 +1,0 @@
-use Rattle.mm_text.proofs.Orders.{NeighboursInOrder}
-use Rattle.mm_text.proofs.write_tests.are_in_order.Given as goal
-
-abbrev pub invariant-loop-k : goal.invariant-loop-k
-invariant-loop-k l = NeighboursInOrder l.cells l.k

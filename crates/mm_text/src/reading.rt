@@ -1,0 +1,12 @@
+//! The reader, from the bytes of a file to its entries.
+
+mod banner;
+mod entries;
+mod lines;
+pub(crate) mod matrix;
+mod numerals;
+mod sizes;
+#[cfg(test)]
+mod tests;
+mod text;
+mod words;

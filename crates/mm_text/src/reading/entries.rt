@@ -1,0 +1,144 @@
+//! The entry lines.
+ghost use Rattle.std.specs.Prelude.{◌≡◌, ◌*◌, ◌<◌, ◌≤◌, option_map};
+ghost use Rattle.mm_text.specs.Cut.{cut_cell};
+ghost use Rattle.mm_text.specs.Entries.{dense_or_bad, dense_value, entry_of, is_negated, is_out, narrow, pattern_cell, placed, placed_or_bad, valued_cell};
+ghost use Rattle.mm_text.specs.Limits.{most_rows};
+ghost use Rattle.mm_text.specs.Lines.{words_in, words_of};
+
+use crate::reading::banner::{Banner, Kind};
+use crate::reading::numerals::{count, value};
+use crate::reading::sizes::Sizes;
+use crate::reading::words::{one_word, three_words, two_words, without_return};
+use crate::{Line, Mirror, MmFault};
+
+/// A row and a column, counted from 1, and the value where it is not too wide.
+#[derive(Clone, Copy)]
+pub struct Cell {
+    pub row: u64,
+    pub col: u64,
+    pub value: Option<i128>,
+}
+
+/// The entry at a place that is counted from 0.
+fn narrow(number: u32, row: u64, col: u64, value: Option<i128>) -> Result<Line, MmFault>
+    ensures { result ≡ narrow number row col value }
+{
+    match value {
+        Some(value) => Ok(Line { row, col, value }),
+        None => Err(MmFault::NumberTooWide { line: number }),
+    }
+}
+
+/// Whether an entry stands for the negated one across the diagonal.
+fn is_negated(mirror: Mirror) -> bool
+    ensures { result ≡ is_negated mirror }
+{
+    match mirror {
+        Mirror::Negated => true,
+        Mirror::Plain => false,
+        Mirror::Same => false,
+    }
+}
+
+/// Whether a place is not from 1 to the size.
+fn is_out(size: u64, place: u64) -> bool
+    ensures { result ≡ is_out size place }
+{
+    place == 0 || place > size
+}
+
+/// The entry at a place that is counted from 1.
+fn placed(mirror: Mirror, sizes: Sizes, number: u32, cell: Cell) -> Result<Line, MmFault>
+    ensures { result ≡ placed mirror sizes number cell }
+{
+    if is_out(sizes.rows, cell.row) || is_out(sizes.cols, cell.col) {
+        return Err(MmFault::OutOfRange { line: number });
+    }
+    if is_negated(mirror) && cell.row == cell.col {
+        return Err(MmFault::SkewDiagonal { line: number });
+    }
+    narrow(number, cell.row - 1, cell.col - 1, cell.value)
+}
+
+/// A place and a value; row and column are at most `u64::MAX`.
+fn valued_cell(bytes: &[u8]) -> Option<Cell>
+    ensures { result ≡ option_map cut_cell (valued_cell (words_in bytes.now)) }
+{
+    let (row, col, number) = three_words(bytes)?;
+    Some(Cell {
+        row: count(row)?,
+        col: count(col)?,
+        value: value(number)?,
+    })
+}
+
+/// A place alone, whose value is 1; row and column are at most `u64::MAX`.
+fn pattern_cell(bytes: &[u8]) -> Option<Cell>
+    ensures { result ≡ option_map cut_cell (pattern_cell (words_in bytes.now)) }
+{
+    let (row, col) = two_words(bytes)?;
+    Some(Cell {
+        row: count(row)?,
+        col: count(col)?,
+        value: Some(1),
+    })
+}
+
+/// A value alone.
+fn dense_value(bytes: &[u8]) -> Option<Option<i128>>
+    ensures { result ≡ dense_value (words_in bytes.now) }
+{
+    value(one_word(bytes)?)
+}
+
+/// The entry of a place that may be missing.
+fn placed_or_bad(
+    mirror: Mirror,
+    sizes: Sizes,
+    number: u32,
+    cell: Option<Cell>,
+) -> Result<Line, MmFault>
+    ensures { result ≡ placed_or_bad mirror sizes number cell }
+{
+    match cell {
+        Some(cell) => placed(mirror, sizes, number, cell),
+        None => Err(MmFault::BadLine { line: number }),
+    }
+}
+
+/// The entry of an array, where `at` entries stand before it.
+fn dense_or_bad(
+    sizes: Sizes,
+    number: u32,
+    at: u64,
+    value: Option<Option<i128>>,
+) -> Result<Line, MmFault>
+    requires { at < sizes.rows * sizes.cols }
+    ensures { result ≡ dense_or_bad sizes number at value }
+{
+    match value {
+        Some(value) => narrow(number, at % sizes.rows, at / sizes.rows, value),
+        None => Err(MmFault::BadLine { line: number }),
+    }
+}
+
+/// The entry of a line, where `at` entries stand before it.
+pub fn read_entry(
+    banner: Banner,
+    sizes: Sizes,
+    number: u32,
+    at: u64,
+    line: &[u8],
+) -> Result<Line, MmFault>
+    requires rows { sizes.rows ≤ most_rows }
+    requires cols { sizes.cols ≤ most_rows }
+    requires within { banner.kind ≡ Kind.Dense → at < sizes.rows * sizes.cols }
+    ensures { result ≡ entry_of banner sizes number at (words_of line.now) }
+{
+    let bytes = without_return(line);
+    match banner.kind {
+        Kind::Valued => placed_or_bad(banner.mirror, sizes, number, valued_cell(bytes)),
+        Kind::Pattern => placed_or_bad(banner.mirror, sizes, number, pattern_cell(bytes)),
+        Kind::Dense => dense_or_bad(sizes, number, at, dense_value(bytes)),
+    }
+}

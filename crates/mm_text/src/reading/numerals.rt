@@ -1,0 +1,108 @@
+//! Counts and values in decimal digits.
+ghost use Rattle.std.specs.Prelude.{◌≡◌, ◌-◌, ◌^◌, pos, neg_ℤ, min, option_map, true, if◌then◌else◌};
+ghost use Rattle.std.specs.Str.{all_ascii_digits};
+ghost use Rattle.std.specs.Str.Parse.{digits_value, starts_with_minus, without_leading_plus, without_leading_sign};
+ghost use Rattle.mm_text.specs.Numerals.{count_of, digits_of, in_width, value_of};
+
+use crate::profile::WIDEST;
+
+/// The number of decimal digits, or `u64::MAX` where it is greater.
+fn digits(word: &[u8]) -> Option<u64>
+    ensures { result ≡ option_map (λ n. min n (2 ^ 64 - 1)) (digits_of word.now) }
+{
+    if word.is_empty() {
+        return None;
+    }
+    let mut number = 0u64;
+    for byte in word {
+        if !byte.is_ascii_digit() {
+            return None;
+        }
+        number = number
+            .saturating_mul(10)
+            .saturating_add(u64::from(*byte - b'0'));
+    }
+    Some(number)
+}
+
+/// The number of decimal digits, or `u128::MAX` where it is greater.
+fn wide_digits(word: &[u8]) -> u128
+    requires { all_ascii_digits word.now ≡ true }
+    ensures { result ≡ min (digits_value 10 word.now) (2 ^ 128 - 1) }
+{
+    let mut number = 0u128;
+    for byte in word {
+        number = number
+            .saturating_mul(10)
+            .saturating_add(u128::from(*byte - b'0'));
+    }
+    number
+}
+
+/// The number of decimal digits, or `u128::MAX` where it is greater.
+fn magnitude(word: &[u8]) -> Option<u128>
+    ensures { result ≡ option_map (λ n. min n (2 ^ 128 - 1)) (digits_of word.now) }
+{
+    let number = digits(word)?;
+    if number < u64::MAX {
+        Some(u128::from(number))
+    } else {
+        Some(wide_digits(word))
+    }
+}
+
+/// The word without a plus in front.
+fn without_plus(word: &[u8]) -> &[u8]
+    ensures { result.now ≡ without_leading_plus word.now }
+{
+    match word {
+        [b'+', rest @ ..] => rest,
+        _ => word,
+    }
+}
+
+/// A count, or `u64::MAX` where it is greater: decimal digits behind a plus or nothing.
+pub fn count(word: &[u8]) -> Option<u64>
+    ensures { result ≡ option_map (λ n. min n (2 ^ 64 - 1)) (count_of word.now) }
+{
+    digits(without_plus(word))
+}
+
+/// Whether the word begins with a minus.
+fn is_negative(word: &[u8]) -> bool
+    ensures { result ≡ starts_with_minus word.now }
+{
+    match word {
+        [b'-', ..] => true,
+        _ => false,
+    }
+}
+
+/// The word without a minus or a plus in front.
+fn without_sign(word: &[u8]) -> &[u8]
+    ensures { result.now ≡ without_leading_sign word.now }
+{
+    match word {
+        [b'-', rest @ ..] => rest,
+        _ => without_plus(word),
+    }
+}
+
+/// The value of a sign and a magnitude, where it is not too wide.
+fn signed(negative: bool, magnitude: u128) -> Option<i128>
+    ensures { result ≡ in_width (if negative then neg_ℤ (pos magnitude) else pos magnitude) }
+{
+    if magnitude > WIDEST {
+        return None;
+    }
+    let value = magnitude as i128;
+    if negative { Some(-value) } else { Some(value) }
+}
+
+/// A value: decimal digits behind a plus, a minus or nothing. There is none within where its magnitude is too wide.
+pub fn value(word: &[u8]) -> Option<Option<i128>>
+    ensures { result ≡ option_map in_width (value_of word.now) }
+{
+    let magnitude = magnitude(without_sign(word))?;
+    Some(signed(is_negative(word), magnitude))
+}

@@ -1,0 +1,99 @@
+//! The size line.
+ghost use Rattle.std.specs.Prelude.{◌≡◌, ◌≤◌, ◌*◌, IfOk, option_map};
+ghost use Rattle.mm_text.specs.Limits.{IsReadable};
+ghost use Rattle.mm_text.specs.Lines.{words_in, words_of};
+ghost use Rattle.mm_text.specs.Sizes.{announced, array_announced, coordinate_announced, is_plain, limited, sizes_of};
+ghost use Rattle.mm_text.specs.Cut.{cut_sizes};
+
+use crate::reading::banner::{Banner, Kind};
+use crate::reading::numerals::count;
+use crate::reading::words::{three_words, two_words, without_return};
+use crate::profile::Profile;
+use crate::{Mirror, MmFault};
+
+/// Rows, columns, and the number of entries.
+#[derive(Clone, Copy, PartialEq, Eq)]
+pub struct Sizes {
+    pub rows: u64,
+    pub cols: u64,
+    pub count: u64,
+}
+
+/// The sizes of an array, each at most `u64::MAX`.
+fn array_announced(bytes: &[u8]) -> Option<Sizes>
+    ensures { result ≡ option_map cut_sizes (array_announced (words_in bytes.now)) }
+{
+    let (rows, cols) = two_words(bytes)?;
+    let rows = count(rows)?;
+    let cols = count(cols)?;
+    Some(Sizes {
+        rows,
+        cols,
+        count: rows.saturating_mul(cols),
+    })
+}
+
+/// The sizes and the number of entries, each at most `u64::MAX`.
+fn coordinate_announced(bytes: &[u8]) -> Option<Sizes>
+    ensures { result ≡ option_map cut_sizes (coordinate_announced (words_in bytes.now)) }
+{
+    let (rows, cols, entries) = three_words(bytes)?;
+    Some(Sizes {
+        rows: count(rows)?,
+        cols: count(cols)?,
+        count: count(entries)?,
+    })
+}
+
+/// The sizes that are announced, each at most `u64::MAX`.
+fn announced(kind: Kind, bytes: &[u8]) -> Option<Sizes>
+    ensures { result ≡ option_map cut_sizes (announced kind (words_in bytes.now)) }
+{
+    match kind {
+        Kind::Dense => array_announced(bytes),
+        Kind::Valued => coordinate_announced(bytes),
+        Kind::Pattern => coordinate_announced(bytes),
+    }
+}
+
+/// Whether the file has no symmetry.
+fn is_plain(mirror: Mirror) -> bool
+    ensures { result ≡ is_plain mirror }
+{
+    match mirror {
+        Mirror::Plain => true,
+        Mirror::Same => false,
+        Mirror::Negated => false,
+    }
+}
+
+/// The sizes, where they keep the limits.
+fn limited(mirror: Mirror, profile: &Profile, sizes: Sizes) -> Result<Sizes, MmFault>
+    ensures { result ≡ limited mirror profile.now sizes }
+{
+    if sizes.rows > profile.rows || sizes.cols > profile.cols {
+        return Err(MmFault::BadSize);
+    }
+    if !is_plain(mirror) && sizes.rows != sizes.cols {
+        return Err(MmFault::NotSquare);
+    }
+    if sizes.count > u64::from(profile.entries) {
+        return Err(MmFault::TooManyEntries);
+    }
+    Ok(sizes)
+}
+
+/// The sizes of a size line.
+pub fn read_sizes(banner: Banner, profile: &Profile, line: &[u8]) -> Result<Sizes, MmFault>
+    requires { IsReadable profile.now }
+    ensures sizes { result ≡ sizes_of banner profile.now (words_of line.now) }
+    ensures rows { IfOk result (λ sizes. sizes.rows ≤ profile.now.rows) }
+    ensures cols { IfOk result (λ sizes. sizes.cols ≤ profile.now.cols) }
+    ensures count { IfOk result (λ sizes. sizes.count ≤ profile.now.entries) }
+    ensures dense { IfOk result (λ sizes. banner.kind ≡ Kind.Dense → sizes.count ≡ sizes.rows * sizes.cols) }
+{
+    match announced(banner.kind, without_return(line)) {
+        None => Err(MmFault::BadSize),
+        Some(sizes) => limited(banner.mirror, profile, sizes),
+    }
+}

@@ -1,0 +1,323 @@
+//! Small texts with what they are read as, and the reads that fail.
+use crate::reading::text::read_text;
+use crate::{FileData, Form, MmFault, read_matrix};
+use outside::{Failed, Files};
+use std::alloc::Global;
+use std::test::Fail;
+
+/// A file in memory, whose read with the number `fails` fails.
+#[derive(Drop)]
+struct OneFile {
+    bytes: Vec<u8>,
+    reads: u64,
+    fails: u64,
+    faults: u64,
+}
+
+impl Files for OneFile {
+    ghost use Rattle.std.specs.Prelude.{None};
+
+    ghost told = { λ _. None };
+
+    ghost faults = { λ files _. files.faults };
+
+    fn read_at(&mut self, _name: &str, at: u64, buf: &mut [u8]) -> Result<usize, Failed> {
+        let number = self.reads;
+        self.reads = number.saturating_add(1);
+        if number == self.fails {
+            self.faults = self.faults.saturating_add(1);
+            return Err(Failed);
+        }
+        let start = (at as usize).min(self.bytes.len());
+        let count = buf.len().min(self.bytes.len() - start);
+        buf[..count].copy_from_slice(&self.bytes[start..start + count]);
+        Ok(count)
+    }
+}
+
+/// What was read, in words: sizes, mirror, number of entries and the entries, or the fault.
+fn in_words(alloc: Global, found: Result<FileData, MmFault>) -> Result<String, Fail> {
+    match found {
+        Err(fault) => Ok(format!(in alloc; "{fault:?}")?),
+        Ok(file) => {
+            let mut words = format!(in alloc;
+                "{} {} {:?} {}",
+                file.rows,
+                file.cols,
+                file.mirror,
+                file.lines.len()
+            )?;
+            for line in &file.lines {
+                words.push_str(format!(in alloc;
+                    "; {} {} {}",
+                    line.row, line.col, line.value
+                )?.as_str())?;
+            }
+            Ok(words)
+        }
+    }
+}
+
+/// What a text is read as.
+fn answer(alloc: Global, want: Form, text: &str) -> Result<String, Fail> {
+    in_words(
+        alloc,
+        read_text(alloc, text.as_bytes(), want, 8_388_608, 16_777_216),
+    )
+}
+
+/// What the lines behind the banner of a coordinate file are read as.
+fn coordinate(alloc: Global, lines: &str) -> Result<String, Fail> {
+    let text = format!(in alloc; "%%MatrixMarket matrix coordinate integer general\n{lines}")?;
+    answer(alloc, Form::Coordinate, text.as_str())
+}
+
+/// What the lines behind the banner of an array file are read as.
+fn array(alloc: Global, lines: &str) -> Result<String, Fail> {
+    let text = format!(in alloc; "%%MatrixMarket matrix array integer general\n{lines}")?;
+    answer(alloc, Form::Array, text.as_str())
+}
+
+#[test]
+fn banners(rt: HostRuntime) -> Result<(), Fail> {
+    let cases = [
+        ("", "NoBanner"),
+        ("\n", "NoBanner"),
+        (
+            "%MatrixMarket matrix coordinate integer general\n",
+            "NoBanner",
+        ),
+        (
+            "%%matrixmarket matrix coordinate integer general\n",
+            "NoBanner",
+        ),
+        ("%%MatrixMarket\n", "BadBanner"),
+        ("%%MatrixMarket matrix coordinate integer\n", "BadBanner"),
+        (
+            "%%MatrixMarket matrix coordinate integer general x\n",
+            "BadBanner",
+        ),
+        (
+            "%%MatrixMarket vector coordinate integer general\n",
+            "BadBanner",
+        ),
+        (
+            "%%MatrixMarket matrix coordinate whole general\n",
+            "BadBanner",
+        ),
+        (
+            "%%MatrixMarket matrix coordinate real hermitian\n",
+            "UnsupportedField",
+        ),
+        (
+            "%%MatrixMarket matrix array complex general\n",
+            "UnsupportedField",
+        ),
+        (
+            "%%MatrixMarket matrix array pattern general\n",
+            "UnsupportedField",
+        ),
+        (
+            "%%MatrixMarket matrix coordinate integer hermitian\n",
+            "UnsupportedSymmetry",
+        ),
+        (
+            "%%MatrixMarket matrix array integer symmetric\n",
+            "UnsupportedSymmetry",
+        ),
+        (
+            "%%MatrixMarket matrix coordinate pattern skew-symmetric\n",
+            "UnsupportedSymmetry",
+        ),
+        ("%%MatrixMarket matrix array integer general\n", "WrongForm"),
+        (
+            "%%MatrixMarket matrix coordinate integer general",
+            "BadSize",
+        ),
+        (
+            " \t%%MatrixMarket  MATRIX\tCoordinate Integer GENERAL \r\n0 0 0",
+            "0 0 Plain 0",
+        ),
+    ];
+    for (text, words) in cases {
+        assert_eq!(rt; answer(rt.alloc(), Form::Coordinate, text)?.as_str(), words);
+    }
+    Ok(())
+}
+
+#[test]
+fn sizes(rt: HostRuntime) -> Result<(), Fail> {
+    let cases = [
+        ("% only a comment\n\n", "BadSize"),
+        ("1 1\n", "BadSize"),
+        ("1 1 1 1\n", "BadSize"),
+        ("-1 1 0\n", "BadSize"),
+        ("+ 1 0\n", "BadSize"),
+        ("16777217 1 0\n", "BadSize"),
+        ("1 16777217 0\n", "BadSize"),
+        ("1 1 8388609\n", "TooManyEntries"),
+        (
+            "1 1 99999999999999999999999999999999999999999\n",
+            "TooManyEntries",
+        ),
+        ("99999999999999999999999999999999999999999 1 0\n", "BadSize"),
+        (
+            "+016777216 +0000000000000000000000000000016777216 0\n",
+            "16777216 16777216 Plain 0",
+        ),
+    ];
+    for (lines, words) in cases {
+        assert_eq!(rt; coordinate(rt.alloc(), lines)?.as_str(), words);
+    }
+    assert_eq!(rt; array(rt.alloc(), "3 1 3\n")?.as_str(), "BadSize");
+    assert_eq!(rt;
+        array(rt.alloc(), "4096 4096\n")?.as_str(),
+        "TooManyEntries"
+    );
+    Ok(())
+}
+
+#[test]
+fn entries(rt: HostRuntime) -> Result<(), Fail> {
+    let cases = [
+        ("2 2 1\n1 1 5", "2 2 Plain 1; 0 0 5"),
+        ("2 2 1\n1\t 2  -5 \t\r\n", "2 2 Plain 1; 0 1 -5"),
+        ("2 2 1\n\n %\n% 9 9 9\n2 1 +0\n \r\n%", "2 2 Plain 1; 1 0 0"),
+        ("2 2 1\n1 1\n", "BadLine { line: 3 }"),
+        ("2 2 1\n1 1 1 1\n", "BadLine { line: 3 }"),
+        ("2 2 1\n1 1 -\n", "BadLine { line: 3 }"),
+        ("2 2 1\n1 1 1.0\n", "BadLine { line: 3 }"),
+        ("2 2 1\n-1 1 1\n", "BadLine { line: 3 }"),
+        ("2 2 1\n1 1 7\r\r\n", "BadLine { line: 3 }"),
+        ("2 2 1\n9 9 x\n", "BadLine { line: 3 }"),
+        ("2 2 1\n0 1 1\n", "OutOfRange { line: 3 }"),
+        ("2 2 1\n1 3 1\n", "OutOfRange { line: 3 }"),
+        (
+            "2 2 1\n%\n18446744073709551617 1 1\n",
+            "OutOfRange { line: 4 }",
+        ),
+        (
+            "2 2 1\n3 1 999999999999999999999999999999999999999999\n",
+            "OutOfRange { line: 3 }",
+        ),
+        (
+            "2 2 1\n1 1 -170141183460469231731687303715884105728\n",
+            "NumberTooWide { line: 3 }",
+        ),
+        ("2 2 2\n1 1 1\n%\n", "TooFew { have: 1 }"),
+        ("2 2 1\n1 1 1\n\n2 2 2\n", "Extra { line: 5 }"),
+        ("2 2 1\n1 1 1\nx", "Extra { line: 4 }"),
+        ("2 2 2\n1 1 x\n1 1 1\n1 1 1\n", "BadLine { line: 3 }"),
+    ];
+    for (lines, words) in cases {
+        assert_eq!(rt; coordinate(rt.alloc(), lines)?.as_str(), words);
+    }
+    Ok(())
+}
+
+#[test]
+fn arrays(rt: HostRuntime) -> Result<(), Fail> {
+    let cases = [
+        (
+            "2 2\n1\n2\n3\n4\n",
+            "2 2 Plain 4; 0 0 1; 1 0 2; 0 1 3; 1 1 4",
+        ),
+        ("0 5\n", "0 5 Plain 0"),
+        ("1 1\n1 1\n", "BadLine { line: 3 }"),
+        ("1 1\n", "TooFew { have: 0 }"),
+        ("1 1\n1\n2\n", "Extra { line: 4 }"),
+        (
+            "1 1\n170141183460469231731687303715884105728\n",
+            "NumberTooWide { line: 3 }",
+        ),
+    ];
+    for (lines, words) in cases {
+        assert_eq!(rt; array(rt.alloc(), lines)?.as_str(), words);
+    }
+    Ok(())
+}
+
+#[test]
+fn symmetries(rt: HostRuntime) -> Result<(), Fail> {
+    let cases = [
+        (
+            "%%MatrixMarket matrix coordinate pattern symmetric\n%\n3 3 2\n2 1\n3 3\n",
+            "3 3 Same 2; 1 0 1; 2 2 1",
+        ),
+        (
+            "%%MatrixMarket MATRIX Coordinate INTEGER skew-symmetric\n2 2 1\n+02 1 7\n",
+            "2 2 Negated 1; 1 0 7",
+        ),
+        (
+            "%%MatrixMarket matrix coordinate integer symmetric\n2 3 0\n",
+            "NotSquare",
+        ),
+        (
+            "%%MatrixMarket matrix coordinate integer skew-symmetric\n2 3 8388609\n",
+            "NotSquare",
+        ),
+        (
+            "%%MatrixMarket matrix coordinate integer skew-symmetric\n2 2 1\n2 2 999999999999999999999999999999999999999999\n",
+            "SkewDiagonal { line: 3 }",
+        ),
+        (
+            "%%MatrixMarket matrix coordinate integer skew-symmetric\n2 2 1\n3 3 1\n",
+            "OutOfRange { line: 3 }",
+        ),
+    ];
+    for (text, words) in cases {
+        assert_eq!(rt; answer(rt.alloc(), Form::Coordinate, text)?.as_str(), words);
+    }
+    Ok(())
+}
+
+/// A file with a comment of 200,000 bytes and a value of 200,000 zeros and a 7, read in pieces.
+#[test]
+fn long_lines(rt: HostRuntime) -> Result<(), Fail> {
+    let alloc = rt.alloc();
+    let mut bytes: Vec<u8> = Vec::new(alloc);
+    bytes.extend_from_slice(b"%%MatrixMarket matrix coordinate integer general\n%")?;
+    for _ in 0..200_000 {
+        bytes.push(b'%')?;
+    }
+    bytes.extend_from_slice(b"\n1 1 1\n1 1 ")?;
+    for _ in 0..200_000 {
+        bytes.push(b'0')?;
+    }
+    bytes.push(b'7')?;
+    let mut files = OneFile {
+        bytes,
+        reads: 0,
+        fails: u64::MAX,
+        faults: 0,
+    };
+    let found = read_matrix(alloc, &mut files, "long.mtx", Form::Coordinate, 1, 1);
+    assert_eq!(rt; in_words(alloc, found)?.as_str(), "1 1 Plain 1; 0 0 7");
+    Ok(())
+}
+
+/// A read that fails is a fault of the reads, whichever it is.
+#[test]
+fn failed_reads(rt: HostRuntime) -> Result<(), Fail> {
+    let alloc = rt.alloc();
+    for fails in 0..3 {
+        let mut bytes: Vec<u8> = Vec::new(alloc);
+        bytes.extend_from_slice(
+            b"%%MatrixMarket matrix coordinate integer general\n1 1 1\n1 1 1\n",
+        )?;
+        let mut files = OneFile {
+            bytes,
+            reads: 0,
+            fails,
+            faults: 0,
+        };
+        let found = read_matrix(alloc, &mut files, "a.mtx", Form::Coordinate, 1, 1);
+        let words = if fails < 2 {
+            "ReadFault"
+        } else {
+            "1 1 Plain 1; 0 0 1"
+        };
+        assert_eq!(rt; in_words(alloc, found)?.as_str(), words);
+    }
+    Ok(())
+}
