@@ -3,7 +3,7 @@ ghost use Rattle.std.specs.Prelude.{◌≡◌, ◌≢◌, ◌≤◌, ◌<◌, �
 ghost use Rattle.std.specs.List.{flat_map};
 ghost use Rattle.std.specs.List.Sorted.{IsPermutation};
 ghost use Rattle.tables.specs.Indices.{dealt};
-ghost use Rattle.mm_text.specs.Numerals.{widest};
+ghost use Rattle.mm_text.specs.Limits.{widest};
 ghost use Rattle.model_defs.specs.FileMatrix.{number_of, own_cell as own_place, number_cell, entry_numbers};
 ghost use Rattle.gathered_rows.specs.Blocks.{cells_in, AreOwned};
 

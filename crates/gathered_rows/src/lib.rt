@@ -16,7 +16,7 @@ mod tests;
 
 ghost use Rattle.std.specs.Prelude.{◌≡◌, ◌≢◌, ◌≤◌, ◌<◌, ◌^◌, IfOk, All, unsigned_abs};
 ghost use Rattle.tables.specs.Tables.{cells_of};
-ghost use Rattle.mm_text.specs.Numerals.{widest};
+ghost use Rattle.mm_text.specs.Limits.{widest};
 ghost use Rattle.model_defs.specs.FileMatrix.{file_matrix};
 
 use crate::dealing::{new_blocks, send_dealt};

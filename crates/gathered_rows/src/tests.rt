@@ -1,6 +1,6 @@
 //! Worked files, through the bound, at weighed numbers.
 ghost use Rattle.std.specs.Prelude.{◌≡◌, ◌≢◌, ◌≤◌, ◌<◌, IsTrue, All, unsigned_abs};
-ghost use Rattle.mm_text.specs.Numerals.{widest};
+ghost use Rattle.mm_text.specs.Limits.{widest};
 
 use crate::gathered_cells;
 use model_defs::{Cell, FileData, Line, Mirror};

@@ -2,6 +2,7 @@
 use Rattle.std.proofs.Common.{◌≡◌, ℕ, ◌-◌, ◌^◌, ◌<◌, ◌≤◌, Bool, true, false, cond, ◌||◌, Option, Some, None, Err, option_map, refl, ap, sym, ◌∙◌, arith, inl, inr, ◌⊎◌}
 use Rattle.std.proofs.lemmas.Bool.{cases_lt}
 use Rattle.std.proofs.lemmas.Bool.Decides.{nat_tests}
+use Rattle.mm_text.specs.Limits.{most_rows}
 use Rattle.mm_text.specs.declared.reading.entries.Cell.{Cell}
 use Rattle.mm_text.specs.declared.fault.MmFault.TheVariants.{OutOfRange}
 use Rattle.mm_text.specs.declared.file_data.Mirror.{Mirror}
@@ -36,7 +37,7 @@ placed_same m s number c h k =
     ap (λ r. placed m s number (record { row = r; col = cut c.col; value = c.value })) row
     ∙ ap (λ x. placed m s number (record { row = c.row; col = x; value = c.value })) col
 
-placed_cut_some : (m : Mirror) (s : Sizes) (number : ℕ) (c : Cell) → s.rows ≤ 2 ^ 40 → s.cols ≤ 2 ^ 40
+placed_cut_some : (m : Mirror) (s : Sizes) (number : ℕ) (c : Cell) → s.rows ≤ most_rows → s.cols ≤ most_rows
     → placed m s number (cut_cell c) ≡ placed m s number c
 placed_cut_some m s number c rows cols = elim (cases_lt (2 ^ 64 - 1) c.row) [
   | inl over ↦ placed_out m s number (cut_cell c) (inl (omega arith)) ∙ sym (placed_out m s number c (inl (omega arith)))
@@ -47,7 +48,7 @@ placed_cut_some m s number c rows cols = elim (cases_lt (2 ^ 64 - 1) c.row) [
 ]
 
 -- a place that is cut off above the sizes is out of range as it was
-pub placed_cut : (m : Mirror) (s : Sizes) (number : ℕ) (c : Option Cell) → s.rows ≤ 2 ^ 40 → s.cols ≤ 2 ^ 40
+pub placed_cut : (m : Mirror) (s : Sizes) (number : ℕ) (c : Option Cell) → s.rows ≤ most_rows → s.cols ≤ most_rows
     → placed_or_bad m s number (option_map cut_cell c) ≡ placed_or_bad m s number c
 placed_cut m s number (Some c) rows cols = placed_cut_some m s number c rows cols
 placed_cut m s number None rows cols = refl

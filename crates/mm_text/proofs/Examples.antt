@@ -4,6 +4,7 @@ use Rattle.mm_text.specs.declared.fault.MmFault.TheVariants.{NoBanner, BadBanner
 use Rattle.mm_text.specs.declared.file_data.Form.TheVariants.{Coordinate}
 use Rattle.mm_text.specs.declared.file_data.Line.{Line}
 use Rattle.mm_text.specs.declared.file_data.Mirror.TheVariants.{Plain, Same, Negated}
+use Rattle.mm_text.specs.Limits.{profile_of}
 use Rattle.mm_text.specs.Lines.{Text}
 use Rattle.mm_text.specs.Outcomes.{Outcome}
 use Rattle.mm_text.specs.Reading.{File, reading}
@@ -13,7 +14,7 @@ abbrev lines : List Text → Text
 lines ls = flat_map (λ l. l ++ 10 ∷ []) ls
 
 abbrev read : Text → Outcome File
-read text = reading Coordinate 8388608 16777216 text
+read text = reading (profile_of Coordinate 8388608 16777216) text
 
 abbrev banner : Text
 banner = codes "%%MatrixMarket matrix coordinate integer general"

@@ -1,6 +1,7 @@
 -- A text has only faults of a text.
 use Rattle.std.proofs.Common.{◌≡◌, ℕ, ℤ, Bool, true, false, cond, List, [], ◌∷◌, Option, Some, None, Ok, Err, IfErr, take, drop, length, ◌+◌, leb}
 use Rattle.std.proofs.lemmas.Result.{IfErr-at_err}
+use Rattle.mm_text.specs.declared.profile.Profile.{Profile}
 use Rattle.mm_text.specs.Limits.{most_bytes}
 use Rattle.mm_text.specs.declared.reading.banner.Banner.{Banner}
 use Rattle.mm_text.specs.declared.reading.banner.Field.{Field}
@@ -139,12 +140,12 @@ sized_fits whole profile banner (line ∷ lines) =
 lines_fit : (whole : Bool) (profile : Profile) (lines : List Text) → Fits (lines_read whole profile lines)
 lines_fit whole profile [] = at_end_fits whole _ (bad NoBanner tt)
 lines_fit whole profile (first ∷ lines) =
-    then_fits (banner_of want (words_of first)) _ (banner_fits want (words_of first)) (λ banner. sized_fits whole profile banner (kept_from 2 lines))
+    then_fits (banner_of profile.form (words_of first)) _ (banner_fits profile.form (words_of first)) (λ banner. sized_fits whole profile banner (kept_from 2 lines))
 
 -- each fault of a text is one of a text
 pub reading_fits : (profile : Profile) (text : Text) → IfErr (reading profile text) IsTextFault
 unfolding reading
-reading_fits profile text = (lines_fit (leb (length text) most_bytes) profile (lines_of (leb (length text) most_bytes) (take most_bytes text))).holds
+reading_fits profile text = (lines_fit (leb (length text) profile.bytes) profile (lines_of (leb (length text) profile.bytes) (take profile.bytes text))).holds
 
 pub no_read_fault : (profile : Profile) (text : Text) → reading profile text ≡ Err ReadFault → ⊥
 no_read_fault profile text e = IfErr-at_err IsTextFault e (reading_fits profile text)

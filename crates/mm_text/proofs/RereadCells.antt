@@ -4,7 +4,7 @@ use Rattle.std.specs.Prelude.{unsigned_abs, option_map}
 use Rattle.std.specs.Fmt.{signed_decimal}
 use Rattle.std.specs.List.{list_all, join_with_byte, enumerate_from}
 use Rattle.std.proofs.lemmas.Bool.{and_from, le-ltb, ne_eqb}
-use Rattle.mm_text.specs.Limits.{most_bytes, most_cols, widest}
+use Rattle.mm_text.specs.Limits.{most_bytes, most_cols, most_rows, profile_of, widest}
 use Rattle.mm_text.specs.declared.reading.banner.Banner.{Banner}
 use Rattle.mm_text.specs.declared.reading.banner.Kind.TheVariants.{Valued}
 use Rattle.mm_text.specs.declared.reading.entries.Cell.{Cell}
@@ -71,7 +71,7 @@ placed-inside s number cell row col =
 abbrev pub coordinate_banner : Banner
 coordinate_banner = record { kind = Valued; mirror = Plain }
 
-entry_of-cell : (s : Sizes) (number at : ℕ) (cell : Shown) → s.rows ≤ 2 ^ 40 → s.cols ≤ most_cols →
+entry_of-cell : (s : Sizes) (number at : ℕ) (cell : Shown) → s.rows ≤ most_rows → s.cols ≤ most_cols →
     cell.row < s.rows → cell.col < s.cols → unsigned_abs cell.value ≤ widest →
     entry_of coordinate_banner s number at (cell_words cell) ≡ Ok (entry_of_cell cell)
 entry_of-cell s number at cell rows_fit cols_fit row col value =
@@ -89,7 +89,7 @@ cell_words-visible cell =
     (and_from (is_visible (decimal (cell.col + 1))) (list_all is_visible (value_words cell.value))
     (decimal-visible (cell.col + 1)) (value_words-visible cell.value))
 
-pub entries_of-cells : (s : Sizes) (number at : ℕ) (cells : List Shown) → s.rows ≤ 2 ^ 40 → s.cols ≤ most_cols →
+pub entries_of-cells : (s : Sizes) (number at : ℕ) (cells : List Shown) → s.rows ≤ most_rows → s.cols ≤ most_cols →
     AreWithin s.rows s.cols cells → AreNarrow (map (λ (cell : Shown). cell.value) cells) →
     entries_of coordinate_banner s at (enumerate_from number (joined (map cell_words cells)))
     ≡ Ok (map entry_of_cell cells)
@@ -124,15 +124,15 @@ coordinate_sizes-is a b c m n l p q r =
     ap (λ (x : Option ℕ). coordinate_sizes x b c) p ∙ ap (λ (x : Option ℕ). coordinate_sizes (Some m) x c) q
     ∙ ap (coordinate_sizes (Some m) (Some n)) r
 
-sizes_of-coordinate : (room most rows cols count : ℕ) → rows ≤ most → most ≤ 2 ^ 40 → cols ≤ most_cols →
+sizes_of-coordinate : (room most rows cols count : ℕ) → rows ≤ most → most ≤ most_rows → cols ≤ most_cols →
     count ≤ room → count < 10 ^ 64 →
-    sizes_of coordinate_banner room most (size_words rows cols count)
+    sizes_of coordinate_banner (profile_of Coordinate room most) (size_words rows cols count)
     ≡ Ok (record { rows = rows; cols = cols; count = count })
 sizes_of-coordinate room most rows cols count rows_fit most_fits cols_fit count_fits count_short =
-    ap (λ (o : Option Sizes). or_fault BadSize o >>= limited Plain room most)
+    ap (λ (o : Option Sizes). or_fault BadSize o >>= limited Plain (profile_of Coordinate room most))
     (coordinate_sizes-is (count_of (decimal rows)) (count_of (decimal cols)) (count_of (decimal count)) rows cols count
     (count_of-decimal rows (omega arith)) (count_of-decimal cols (omega arith)) (count_of-decimal count count_short))
-    ∙ limited-within room most (record { rows = rows; cols = cols; count = count }) rows_fit cols_fit count_fits
+    ∙ limited-within (profile_of Coordinate room most) (record { rows = rows; cols = cols; count = count }) rows_fit cols_fit count_fits
 
 cells-visible : (cells : List Shown) → are_visible (map cell_words cells) ≡ true
 cells-visible [] = refl
@@ -140,7 +140,7 @@ cells-visible (cell ∷ cells) =
     and_from (list_all is_visible (cell_words cell)) (are_visible (map cell_words cells)) (cell_words-visible cell)
     (cells-visible cells)
 
-cells-entries : (rows cols : ℕ) (cells : List Shown) → rows ≤ 2 ^ 40 → AreWithin rows cols cells →
+cells-entries : (rows cols : ℕ) (cells : List Shown) → rows ≤ most_rows → AreWithin rows cols cells →
     are_entries (map cell_words cells) ≡ true
 cells-entries rows cols [] rows_fit within = refl
 cells-entries rows cols (cell ∷ cells) rows_fit within =
@@ -179,9 +179,9 @@ coordinate_lines-visible rows cols part cells =
     (size_words-visible rows cols (length cells)) (cells-visible cells))
 
 lines_read-coordinate : (rows cols room most : ℕ) (part : Option ℕ) (cells : List Shown) →
-    rows ≤ most → most ≤ 2 ^ 40 → cols ≤ most_cols → length cells ≤ room → length cells < 10 ^ 64 →
+    rows ≤ most → most ≤ most_rows → cols ≤ most_cols → length cells ≤ room → length cells < 10 ^ 64 →
     AreWithin rows cols cells → AreNarrow (map (λ (cell : Shown). cell.value) cells) →
-    lines_read true Coordinate room most (joined (coordinate_lines rows cols part cells))
+    lines_read true (profile_of Coordinate room most) (joined (coordinate_lines rows cols part cells))
     ≡ Ok (file_of_cells rows cols cells)
 unfolding coordinate_lines
 lines_read-coordinate rows cols room most part cells rows_fit most_fits cols_fit count_fits count_short within narrow =
@@ -189,15 +189,15 @@ lines_read-coordinate rows cols room most part cells rows_fit most_fits cols_fit
     let size : List Text = size_words rows cols (length cells) in
     let places : List (List Text) = map cell_words cells in
     let rest : List (ℕ × Text) = enumerate_from (after_part part + 1) (joined places) in
-    let rows_low : rows ≤ 2 ^ 40 = omega arith in
-    ap (sized true room most coordinate_banner)
+    let rows_low : rows ≤ most_rows = omega arith in
+    ap (sized true (profile_of Coordinate room most) coordinate_banner)
     (kept_from-part part (size ∷ places)
     (and_from (list_all is_visible size) (are_visible places) (size_words-visible rows cols (length cells))
     (cells-visible cells))
     (and_from (not (is_comment size)) (are_entries places)
     (decimal-entry rows (decimal cols ∷ decimal (length cells) ∷ []) (omega arith))
     (cells-entries rows cols cells rows_low within)))
-    ∙ ap (λ (words : List Text). sizes_of coordinate_banner room most words
+    ∙ ap (λ (words : List Text). sizes_of coordinate_banner (profile_of Coordinate room most) words
     >>= (λ s. body_of true coordinate_banner s rest))
     (words_of-words size (size_words-visible rows cols (length cells)))
     ∙ ap (λ (o : Outcome Sizes). o >>= (λ s. body_of true coordinate_banner s rest))
@@ -218,15 +218,15 @@ length-coordinate_lines rows cols part cells =
 
 reading-coordinate : (rows cols room most : ℕ) (part : Option ℕ) (cells : List Shown) (text : Text) →
     text ≡ lines_text (coordinate_lines rows cols part cells) → length text ≤ most_bytes →
-    rows ≤ most → most ≤ 2 ^ 40 → cols ≤ most_cols → length cells ≤ room →
+    rows ≤ most → most ≤ most_rows → cols ≤ most_cols → length cells ≤ room →
     AreWithin rows cols cells → AreNarrow (map (λ (cell : Shown). cell.value) cells) →
-    reading Coordinate room most text ≡ Ok (file_of_cells rows cols cells)
+    reading (profile_of Coordinate room most) text ≡ Ok (file_of_cells rows cols cells)
 reading-coordinate rows cols room most part cells text made short rows_fit most_fits cols_fit count_fits within narrow =
     let lines : List (List Text) = coordinate_lines rows cols part cells in
     let few = length-coordinate_lines rows cols part cells in
     let fewer = length-lines_text lines in
     let long : length text ≡ length (lines_text lines) = ap length made in
-    reading-lines Coordinate room most lines text made (coordinate_lines-visible rows cols part cells) short
+    reading-lines (profile_of Coordinate room most) lines text made (coordinate_lines-visible rows cols part cells) short
     ∙ lines_read-coordinate rows cols room most part cells rows_fit most_fits cols_fit count_fits
     (omega (arith, few, fewer, long, short)) within narrow
 

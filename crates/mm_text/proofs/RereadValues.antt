@@ -3,7 +3,7 @@ use Rattle.std.proofs.Common.{◌≡◌, ℕ, ◌+◌, ◌*◌, ◌/◌, ◌%◌
 use Rattle.std.specs.Prelude.{unsigned_abs}
 use Rattle.std.specs.List.{list_all, join_with_byte, enumerate_from}
 use Rattle.std.proofs.lemmas.Bool.{and_from}
-use Rattle.mm_text.specs.Limits.{most_bytes, most_cols, widest}
+use Rattle.mm_text.specs.Limits.{most_bytes, most_cols, profile_of, widest}
 use Rattle.mm_text.specs.declared.reading.banner.Banner.{Banner}
 use Rattle.mm_text.specs.declared.reading.banner.Kind.TheVariants.{Dense}
 use Rattle.mm_text.specs.declared.fault.MmFault.TheVariants.{BadSize, BadLine}
@@ -80,13 +80,13 @@ array_sizes-is : (a b : Option ℕ) (m n : ℕ) → a ≡ Some m → b ≡ Some 
 array_sizes-is a b m n p q = ap (λ (x : Option ℕ). array_sizes x b) p ∙ ap (array_sizes (Some m)) q
 
 sizes_of-array : (room most rows cols : ℕ) → rows ≤ most → rows ≤ most_cols → cols ≤ most_cols → rows * cols ≤ room →
-    sizes_of array_banner room most (shape_words rows cols)
+    sizes_of array_banner (profile_of Array room most) (shape_words rows cols)
     ≡ Ok (record { rows = rows; cols = cols; count = rows * cols })
 sizes_of-array room most rows cols rows_most rows_fit cols_fit count_fits =
-    ap (λ (o : Option Sizes). or_fault BadSize o >>= limited Plain room most)
+    ap (λ (o : Option Sizes). or_fault BadSize o >>= limited Plain (profile_of Array room most))
     (array_sizes-is (count_of (decimal rows)) (count_of (decimal cols)) rows cols
     (count_of-decimal rows (omega arith)) (count_of-decimal cols (omega arith)))
-    ∙ limited-within room most (record { rows = rows; cols = cols; count = rows * cols }) rows_most cols_fit count_fits
+    ∙ limited-within (profile_of Array room most) (record { rows = rows; cols = cols; count = rows * cols }) rows_most cols_fit count_fits
 
 -- the lines of array text
 pub array_lines : ℕ → ℕ → List ℤ → List (List Text)
@@ -104,19 +104,19 @@ array_lines-visible rows cols values =
 
 lines_read-array : (rows cols room most : ℕ) (values : List ℤ) → rows ≤ most → rows ≤ most_cols → cols ≤ most_cols →
     length values ≡ rows * cols → length values ≤ room → AreNarrow values →
-    lines_read true Array room most (joined (array_lines rows cols values)) ≡ Ok (file_of_values rows cols values)
+    lines_read true (profile_of Array room most) (joined (array_lines rows cols values)) ≡ Ok (file_of_values rows cols values)
 unfolding array_lines
 lines_read-array rows cols room most values rows_most rows_fit cols_fit all count_fits narrow_all =
     let sizes : Sizes = record { rows = rows; cols = cols; count = rows * cols } in
     let shape : List Text = shape_words rows cols in
     let entries : List (List Text) = map value_words values in
     let rest : List (ℕ × Text) = enumerate_from 3 (joined entries) in
-    ap (sized true room most array_banner)
+    ap (sized true (profile_of Array room most) array_banner)
     (kept_from-entries 2 (shape ∷ entries)
     (and_from (list_all is_visible shape) (are_visible entries) (shape_words-visible rows cols) (values-visible values))
     (and_from (not (is_comment shape)) (are_entries entries) (decimal-entry rows (decimal cols ∷ []) (omega arith))
     (values-entries values narrow_all)))
-    ∙ ap (λ (words : List Text). sizes_of array_banner room most words
+    ∙ ap (λ (words : List Text). sizes_of array_banner (profile_of Array room most) words
     >>= (λ s. body_of true array_banner s rest))
     (words_of-words shape (shape_words-visible rows cols))
     ∙ ap (λ (o : Outcome Sizes). o >>= (λ s. body_of true array_banner s rest))
@@ -130,9 +130,9 @@ lines_read-array rows cols room most values rows_most rows_fit cols_fit all coun
 reading-array : (rows cols room most : ℕ) (values : List ℤ) (text : Text) →
     text ≡ lines_text (array_lines rows cols values) → length text ≤ most_bytes →
     rows ≤ most → rows ≤ most_cols → cols ≤ most_cols → length values ≡ rows * cols → length values ≤ room →
-    AreNarrow values → reading Array room most text ≡ Ok (file_of_values rows cols values)
+    AreNarrow values → reading (profile_of Array room most) text ≡ Ok (file_of_values rows cols values)
 reading-array rows cols room most values text made short rows_most rows_fit cols_fit all count_fits narrow_all =
-    reading-lines Array room most (array_lines rows cols values) text made (array_lines-visible rows cols values) short
+    reading-lines (profile_of Array room most) (array_lines rows cols values) text made (array_lines-visible rows cols values) short
     ∙ lines_read-array rows cols room most values rows_most rows_fit cols_fit all count_fits narrow_all
 
 pub array_text-is_file : ArrayTextIsFile

@@ -4,7 +4,8 @@ use Rattle.std.specs.Prelude.{unsigned_abs, option_map}
 use Rattle.std.specs.Fmt.{signed_decimal}
 use Rattle.std.specs.List.{list_all, join_with_byte, enumerate_from}
 use Rattle.std.proofs.lemmas.Bool.{and_parts, and_from, le-ltb, le-leb, ne_eqb}
-use Rattle.mm_text.specs.Limits.{most_bytes, most_cols, widest}
+use Rattle.mm_text.specs.declared.profile.Profile.{Profile}
+use Rattle.mm_text.specs.Limits.{widest}
 use Rattle.mm_text.specs.declared.reading.banner.Banner.{Banner}
 use Rattle.mm_text.specs.declared.fault.MmFault.TheVariants.{BadSize, TooManyEntries, TooFew}
 use Rattle.mm_text.specs.declared.file_data.Line.{Line}
@@ -20,7 +21,6 @@ use Rattle.mm_text.proofs.Decimals.{is_visible, signed_decimal-visible, first-de
 use Rattle.mm_text.proofs.Splitting.{are_visible, words_of-words, lines_of-lines}
 use Rattle.std.proofs.Math.Seq.{drop-length}
 use Rattle.std.proofs.lemmas.List.{take_all}
-use Rattle.mm_text.specs.declared.file_data.Form.{Form}
 use Rattle.mm_text.specs.Reading.{File, reading, lines_read, body_of, complete, no_more}
 
 -- the lines of these words
@@ -56,13 +56,13 @@ pub in_width-written : (z : ℤ) → unsigned_abs z ≤ widest → option_map in
 in_width-written z narrow =
     ap (option_map in_width) (value_of-signed_decimal z (omega arith)) ∙ ap Some (in_width-narrow z narrow)
 
-pub limited-within : (room most : ℕ) (s : Sizes) → s.rows ≤ most → s.cols ≤ most_cols → s.count ≤ room →
-    limited Plain room most s ≡ Ok s
-limited-within room most s rows cols count =
-    let few : Outcome Sizes = cond (nat_lt room s.count) (Err TooManyEntries) (Ok s) in
-    ap (λ (b : Bool). cond (b || nat_lt most_cols s.cols) (Err BadSize) few) (le-ltb most s.rows rows)
-    ∙ ap (λ (b : Bool). cond b (Err BadSize) few) (le-ltb most_cols s.cols cols)
-    ∙ ap (λ (b : Bool). cond b (Err TooManyEntries) (Ok s)) (le-ltb room s.count count)
+pub limited-within : (profile : Profile) (s : Sizes) → s.rows ≤ profile.rows → s.cols ≤ profile.cols → s.count ≤ profile.entries →
+    limited Plain profile s ≡ Ok s
+limited-within profile s rows cols count =
+    let few : Outcome Sizes = cond (nat_lt profile.entries s.count) (Err TooManyEntries) (Ok s) in
+    ap (λ (b : Bool). cond (b || nat_lt profile.cols s.cols) (Err BadSize) few) (le-ltb profile.rows s.rows rows)
+    ∙ ap (λ (b : Bool). cond b (Err BadSize) few) (le-ltb profile.cols s.cols cols)
+    ∙ ap (λ (b : Bool). cond b (Err TooManyEntries) (Ok s)) (le-ltb profile.entries s.count count)
 
 -- as many entries as were announced
 complete-all : (count : ℕ) (entries : List Line) → length entries ≡ count → complete true count entries [] ≡ Ok entries
@@ -85,15 +85,15 @@ body_of-entries banner s lines entries announced all read =
     ∙ ap (λ (o : Outcome (List Line)). o >>= file) (complete-all s.count entries all)
 
 -- the lines of a text that is not too long
-pub reading-lines : (want : Form) (room most : ℕ) (lines : List (List Text)) (text : Text) → text ≡ lines_text lines →
-    are_visible lines ≡ true → length text ≤ most_bytes →
-    reading want room most text ≡ lines_read true want room most (joined lines)
+pub reading-lines : (profile : Profile) (lines : List (List Text)) (text : Text) → text ≡ lines_text lines →
+    are_visible lines ≡ true → length text ≤ profile.bytes →
+    reading profile text ≡ lines_read true profile (joined lines)
 unfolding reading
-reading-lines want room most lines text made visible short =
-    ap (λ (whole : Bool). lines_read whole want room most (lines_of whole (take most_bytes text)))
-    (le-leb (length text) most_bytes short)
-    ∙ ap (λ (t : Text). lines_read true want room most (lines_of true t)) (take_all most_bytes text short ∙ made)
-    ∙ ap (lines_read true want room most) (lines_of-lines lines visible)
+reading-lines profile lines text made visible short =
+    ap (λ (whole : Bool). lines_read whole profile (lines_of whole (take profile.bytes text)))
+    (le-leb (length text) profile.bytes short)
+    ∙ ap (λ (t : Text). lines_read true profile (lines_of true t)) (take_all profile.bytes text short ∙ made)
+    ∙ ap (lines_read true profile) (lines_of-lines lines visible)
 
 -- a text has no more lines than bytes
 pub length-lines_text : (lines : List (List Text)) → length lines ≤ length (lines_text lines)

@@ -4,7 +4,8 @@ use Rattle.std.proofs.Math.Nat.{div-lt_iff_lt-mul, mul_comm, zero-mul}
 use Rattle.std.proofs.lemmas.Bool.Decides.{nat_tests}
 use Rattle.std.proofs.lemmas.List.{length-take}
 use Rattle.std.proofs.lemmas.Result.{IfOk-at_ok}
-use Rattle.mm_text.specs.Limits.{most_bytes, most_cols, widest}
+use Rattle.mm_text.specs.declared.profile.Profile.{Profile}
+use Rattle.mm_text.specs.Limits.{widest}
 use Rattle.mm_text.specs.declared.reading.banner.Banner.{Banner}
 use Rattle.mm_text.specs.declared.reading.banner.Field.{Field}
 use Rattle.mm_text.specs.declared.reading.banner.Field.TheVariants as field
@@ -26,7 +27,7 @@ use Rattle.mm_text.specs.Numerals.{count_of}
 use Rattle.mm_text.specs.Outcomes.{Outcome, at_end, or_fault}
 use Rattle.mm_text.specs.Reading.{File, body_of, complete, entries_in, lines_read, no_more, reading, sized}
 use Rattle.mm_text.specs.Sizes.{announced, array_announced, array_sizes, is_plain, limited, sizes_of}
-use Rattle.mm_text.specs.Sound.{IsSound}
+use Rattle.mm_text.specs.Sound.{IsSound, KeepsLimits}
 use Rattle.mm_text.proofs.EntrySoundLemmas.{AreEntries, Good, IsEntryBy, entries_good, good_bad, good_cond, good_ok, good_then, good_weaker}
 
 any_good : {A : Type 0} (r : Outcome A) → Good (λ _. Unit {0}) r
@@ -76,11 +77,11 @@ banner_good want (mark ∷ words) =
     (λ _. good_bad (FitsForm want) NoBanner)
 
 -- sizes within the limits
-record FitsSizes (m : Mirror) (profile : Profile) (s : Sizes) : Type 0 where
-  rows : s.rows ≤ most
-  cols : s.cols ≤ most_cols
-  count : s.count ≤ room
-  square : m ≢ mirror.Plain → s.rows ≡ s.cols
+pub record FitsSizes (m : Mirror) (profile : Profile) (s : Sizes) : Type 0 where
+  pub rows : s.rows ≤ profile.rows
+  pub cols : s.cols ≤ profile.cols
+  pub count : s.count ≤ profile.entries
+  pub square : m ≢ mirror.Plain → s.rows ≡ s.cols
 
 either : (most k rows cols : ℕ) → (ltb most rows || ltb k cols) ≡ false → (rows ≤ most) × (cols ≤ k)
 either most k rows cols e = grind (arith, nat_tests)
@@ -95,21 +96,21 @@ squared mirror.Negated x y e h = grind (arith, nat_tests)
 
 limited_good : (m : Mirror) (profile : Profile) (s : Sizes) (P : Sizes → Type 0) → P s → Good (λ t. FitsSizes m profile t × P t) (limited m profile s)
 limited_good m profile s P p =
-    good_cond (λ t. FitsSizes m profile t × P t) (ltb most s.rows || ltb most_cols s.cols) _ _ (λ _. good_bad (λ t. FitsSizes m profile t × P t) BadSize) (λ a.
+    good_cond (λ t. FitsSizes m profile t × P t) (ltb profile.rows s.rows || ltb profile.cols s.cols) _ _ (λ _. good_bad (λ t. FitsSizes m profile t × P t) BadSize) (λ a.
     good_cond (λ t. FitsSizes m profile t × P t) (not (is_plain m) && not (eqb s.rows s.cols)) _ _ (λ _. good_bad (λ t. FitsSizes m profile t × P t) NotSquare) (λ b.
-    good_cond (λ t. FitsSizes m profile t × P t) (ltb room s.count) _ _ (λ _. good_bad (λ t. FitsSizes m profile t × P t) TooManyEntries) (λ c.
+    good_cond (λ t. FitsSizes m profile t × P t) (ltb profile.entries s.count) _ _ (λ _. good_bad (λ t. FitsSizes m profile t × P t) TooManyEntries) (λ c.
     good_ok (λ t. FitsSizes m profile t × P t) s (
       record {
-        rows = (either most most_cols s.rows s.cols a).0;
-        cols = (either most most_cols s.rows s.cols a).1;
-        count = below room s.count c;
+        rows = (either profile.rows profile.cols s.rows s.cols a).0;
+        cols = (either profile.rows profile.cols s.rows s.cols a).1;
+        count = below profile.entries s.count c;
         square = squared m s.rows s.cols b;
       },
       p,
     ))))
 
 -- the entries of an array file are those of all places
-abbrev AllPlaces : Kind → Sizes → Type 0
+abbrev pub AllPlaces : Kind → Sizes → Type 0
 AllPlaces k s = k ≡ kind.Dense → s.count ≡ s.rows * s.cols
 
 array_places : (o : Option ℕ) (p : Option ℕ) → IfSome (array_sizes o p) (λ s. s.count ≡ s.rows * s.cols)
@@ -139,11 +140,11 @@ or_places k (Some s) h = good_ok (AllPlaces k) s h
 or_places k None h = good_bad (AllPlaces k) BadSize
 
 -- the sizes of a size line
-record AreSizes (banner : Banner) (profile : Profile) (s : Sizes) : Type 0 where
-  fits : FitsSizes banner.mirror profile s
-  places : AllPlaces banner.kind s
+pub record AreSizes (banner : Banner) (profile : Profile) (s : Sizes) : Type 0 where
+  pub fits : FitsSizes banner.mirror profile s
+  pub places : AllPlaces banner.kind s
 
-sizes_good : (banner : Banner) (profile : Profile) (words : List Text) → Good (AreSizes banner profile) (sizes_of banner profile words)
+pub sizes_good : (banner : Banner) (profile : Profile) (words : List Text) → Good (AreSizes banner profile) (sizes_of banner profile words)
 sizes_good banner profile words =
     good_then (AllPlaces banner.kind) (AreSizes banner profile) (or_fault BadSize (announced banner.kind words)) _
     (or_places banner.kind (announced banner.kind words) (announced_places banner.kind words)) (λ s p.
@@ -225,44 +226,53 @@ dense_place kind.Pattern m s at line e is = absurd (cc)
 abbrev file_with : Banner → Sizes → List Line → File
 file_with banner s entries = record { rows = s.rows; cols = s.cols; mirror = banner.mirror; lines = entries }
 
-sound_of : (profile : Profile) (banner : Banner) (s : Sizes) (entries : List Line) → FitsForm want banner → AreSizes banner profile s → AreAll banner s entries
-    → IsSound profile (file_with banner s entries)
+-- sound data that keep the limits
+pub record IsKept (profile : Profile) (file : File) : Type 0 where
+  pub sound : IsSound file
+  pub limits : KeepsLimits profile file
+
+sound_of : (profile : Profile) (banner : Banner) (s : Sizes) (entries : List Line) → FitsForm profile.form banner → AreSizes banner profile s → AreAll banner s entries
+    → IsKept profile (file_with banner s entries)
 sound_of profile banner s entries form' sizes all = record {
-  rows = sizes.fits.rows;
-  cols = sizes.fits.cols;
-  count = omega (arith, all.count, sizes.fits.count);
-  places = λ k d h. placed_cell banner.kind banner.mirror s k (get_or entries k d) (all.each k d h) (omega (arith, all.count)) sizes.places;
-  values = λ k d h. value_within banner.kind banner.mirror s k (get_or entries k d) (all.each k d h);
-  square = sizes.fits.square;
-  diagonal = λ e k d h. off_diagonal banner.kind banner.mirror s k (get_or entries k d) (all.each k d h) form'.plain e;
-  array = λ e. record {
-    plain = form'.plain (form'.dense e);
-    count = all.count ∙ sizes.places (form'.dense e);
-    places = λ k d h. dense_place banner.kind banner.mirror s k (get_or entries k d) (form'.dense e) (all.each k d h);
+  sound = record {
+    places = λ k d h. placed_cell banner.kind banner.mirror s k (get_or entries k d) (all.each k d h) (omega (arith, all.count)) sizes.places;
+    values = λ k d h. value_within banner.kind banner.mirror s k (get_or entries k d) (all.each k d h);
+    square = sizes.fits.square;
+    diagonal = λ e k d h. off_diagonal banner.kind banner.mirror s k (get_or entries k d) (all.each k d h) form'.plain e;
+  };
+  limits = record {
+    rows = sizes.fits.rows;
+    cols = sizes.fits.cols;
+    count = omega (arith, all.count, sizes.fits.count);
+    array = λ e. record {
+      plain = form'.plain (form'.dense e);
+      count = all.count ∙ sizes.places (form'.dense e);
+      places = λ k d h. dense_place banner.kind banner.mirror s k (get_or entries k d) (form'.dense e) (all.each k d h);
+    };
   };
 }
 
-body_good : (profile : Profile) (whole : Bool) (banner : Banner) (s : Sizes) (lines : List (ℕ × Text)) → FitsForm want banner → AreSizes banner profile s
-    → Good (IsSound profile) (body_of whole banner s lines)
+body_good : (profile : Profile) (whole : Bool) (banner : Banner) (s : Sizes) (lines : List (ℕ × Text)) → FitsForm profile.form banner → AreSizes banner profile s
+    → Good (IsKept profile) (body_of whole banner s lines)
 body_good profile whole banner s lines form' sizes =
-    good_then (AreAll banner s) (IsSound profile) (entries_in whole banner s lines) _ (entries_in_good whole banner s lines) (λ entries all.
-    good_ok (IsSound profile) (file_with banner s entries) (sound_of profile banner s entries form' sizes all))
+    good_then (AreAll banner s) (IsKept profile) (entries_in whole banner s lines) _ (entries_in_good whole banner s lines) (λ entries all.
+    good_ok (IsKept profile) (file_with banner s entries) (sound_of profile banner s entries form' sizes all))
 
-sized_good : (profile : Profile) (whole : Bool) (banner : Banner) (lines : List (ℕ × Text)) → FitsForm want banner
-    → Good (IsSound profile) (sized whole profile banner lines)
-sized_good profile whole banner [] form' = at_end_good (IsSound profile) whole _ (good_bad (IsSound profile) BadSize)
+sized_good : (profile : Profile) (whole : Bool) (banner : Banner) (lines : List (ℕ × Text)) → FitsForm profile.form banner
+    → Good (IsKept profile) (sized whole profile banner lines)
+sized_good profile whole banner [] form' = at_end_good (IsKept profile) whole _ (good_bad (IsKept profile) BadSize)
 sized_good profile whole banner (line ∷ lines) form' =
-    good_then (AreSizes banner profile) (IsSound profile) (sizes_of banner profile (words_of line.1)) _ (sizes_good banner profile (words_of line.1)) (λ s sizes.
+    good_then (AreSizes banner profile) (IsKept profile) (sizes_of banner profile (words_of line.1)) _ (sizes_good banner profile (words_of line.1)) (λ s sizes.
     body_good profile whole banner s lines form' sizes)
 
-lines_good : (profile : Profile) (whole : Bool) (lines : List Text) → Good (IsSound profile) (lines_read whole profile lines)
-lines_good profile whole [] = at_end_good (IsSound profile) whole _ (good_bad (IsSound profile) NoBanner)
+lines_good : (profile : Profile) (whole : Bool) (lines : List Text) → Good (IsKept profile) (lines_read whole profile lines)
+lines_good profile whole [] = at_end_good (IsKept profile) whole _ (good_bad (IsKept profile) NoBanner)
 lines_good profile whole (first ∷ lines) =
-    good_then (FitsForm want) (IsSound profile) (banner_of want (words_of first)) _ (banner_good want (words_of first)) (λ banner form'.
+    good_then (FitsForm profile.form) (IsKept profile) (banner_of profile.form (words_of first)) _ (banner_good profile.form (words_of first)) (λ banner form'.
     sized_good profile whole banner (kept_from 2 lines) form')
 
--- what is read is sound
-pub reading_sound : (profile : Profile) (text : Text) (file : File) → reading profile text ≡ Ok file → IsSound profile file
+-- what is read is sound, and keeps the limits
+pub reading_kept : (profile : Profile) (text : Text) (file : File) → reading profile text ≡ Ok file → IsKept profile file
 unfolding reading
-reading_sound profile text file e =
-    IfOk-at_ok (IsSound profile) e (lines_good profile (leb (length text) most_bytes) (lines_of (leb (length text) most_bytes) (take most_bytes text))).holds
+reading_kept profile text file e =
+    IfOk-at_ok (IsKept profile) e (lines_good profile (leb (length text) profile.bytes) (lines_of (leb (length text) profile.bytes) (take profile.bytes text))).holds

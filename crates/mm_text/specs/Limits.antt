@@ -1,5 +1,5 @@
 -- The form and the limits of the files that are read.
-use Rattle.std.specs.Prelude.{ℕ, ◌≤◌}
+use Rattle.std.specs.Prelude.{ℕ, ◌<◌, ◌≤◌, ◌^◌}
 use Rattle.mm_text.specs.declared.file_data.Form.{Form}
 use Rattle.mm_text.specs.declared.profile.Profile.{Profile}
 use Rattle.mm_text.specs.declared.profile.TheConstants.{MOST_BYTES, MOST_COLS, MOST_ROWS, WIDEST}
@@ -28,5 +28,6 @@ profile_of want room most =
 -- no limit is above those that the reader can keep
 pub record IsReadable (profile : Profile) : Type 0 where
   pub bytes : profile.bytes ≤ most_bytes
+  pub entries : profile.entries < 2 ^ 32
   pub rows : profile.rows ≤ most_rows
   pub cols : profile.cols ≤ most_cols

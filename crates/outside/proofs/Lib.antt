@@ -3,3 +3,4 @@ pub mod LetterCounts
 pub mod LetterLookups
 pub mod Names
 pub mod Taking
+pub mod Sources

@@ -1,10 +1,11 @@
 -- What a sink has taken after one write and another.
 use Rattle.std.proofs.Common.{◌≡◌, ℕ, ◌+◌, ◌≤◌, List, [], ◌++◌, Option, None, Some, length, take, drop, min, refl, ap, sym, ◌∙◌, append_assoc, length-drop, ◌-◌, arith}
-use Rattle.std.specs.Prelude.{Result, Ok, Err}
+use Rattle.std.specs.Prelude.{Result, Ok, Err, IsErr}
 use Rattle.std.proofs.lemmas.List.{append-nil, take-append-drop, drop-take, take-take, take_min, take-append-le}
 use Rattle.std.proofs.Math.Seq.{take-append-add, take-length}
 use Rattle.outside.specs.Bytes.{with_bytes}
-use Rattle.outside.specs.Writes.{TakesPrefix, HoldsBack, Writes}
+use Rattle.outside.specs.Faults.{Rose}
+use Rattle.outside.specs.Writes.{TakesPrefix, HoldsBack, Writes, WritesAndHolds}
 
 pub with_bytes-none : (told : Option (List ℕ)) → with_bytes told [] ≡ told
 with_bytes-none None = refl
@@ -113,4 +114,30 @@ Writes-held told faults old mid new held text (Err e) before same writes = recor
   prefix = HoldsBack-fault (told old) (told mid) (told new) held text before writes.prefix;
   fault = omega (arith, same, writes.fault);
   never_falls = omega (arith, same, writes.never_falls);
+}
+
+-- a write that failed after others that did not
+pub Writes-failed : {S T E : Type 0} (told : S → Option (List ℕ)) (faults : S → ℕ) (old mid new : S) (text : List ℕ)
+    (result : Result T E) → IsErr result → faults mid ≡ faults old → TakesPrefix (told old) (told new) text →
+    Rose (faults mid) (faults new) → faults mid ≤ faults new → Writes told faults old new text result
+Writes-failed told faults old mid new text (Ok x) is same prefix fault never = absurd (cc)
+Writes-failed told faults old mid new text (Err e) is same prefix fault never = record {
+  taken = tt;
+  no_fault = tt;
+  prefix = prefix;
+  fault = omega (arith, same, fault);
+  never_falls = omega (arith, same, never);
+}
+
+pub WritesAndHolds-failed : {S T E : Type 0} (told : S → Option (List ℕ)) (faults : S → ℕ) (old mid new : S)
+    (held text : List ℕ) (result : Result T E) → IsErr result → faults mid ≡ faults old →
+    TakesPrefix (told old) (told new) text → Rose (faults mid) (faults new) → faults mid ≤ faults new →
+    WritesAndHolds told faults old new held text result
+WritesAndHolds-failed told faults old mid new held text (Ok x) is same prefix fault never = absurd (cc)
+WritesAndHolds-failed told faults old mid new held text (Err e) is same prefix fault never = record {
+  taken = tt;
+  no_fault = tt;
+  prefix = prefix;
+  fault = omega (arith, same, fault);
+  never_falls = omega (arith, same, never);
 }

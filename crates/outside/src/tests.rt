@@ -3,6 +3,7 @@ ghost use Rattle.std.specs.Prelude.{◌≡◌, None};
 
 use crate::{
     Failed, Files, MailRoom, MemFiles, MemSink, Name, RealFiles, RealSink, Sink, Wire, WireErr,
+    write_all,
 };
 use std::fs;
 use std::test::Fail;
@@ -142,5 +143,14 @@ fn names_are_ordered_by_phase_then_sender_then_receiver(rt: HostRuntime) -> Resu
     assert!(rt; name(0, 1, 1) < name(1, 0, 0));
     assert!(rt; name(0, 0, 1) < name(0, 1, 0));
     assert!(rt; name(0, 0, 0) < name(0, 0, 1));
+    Ok(())
+}
+
+#[test]
+fn bytes_go_on_where_the_sink_took_a_part(rt: HostRuntime) -> Result<(), Fail> {
+    let mut sink = MemSink::new(rt.alloc(), 5)?;
+    write_all(&mut sink, b"tpx").expect(&rt, "room");
+    assert!(rt; write_all(&mut sink, b": no").is_err());
+    assert_eq!(rt; sink.bytes(), b"tpx: ".as_slice());
     Ok(())
 }

@@ -5,6 +5,7 @@ use Rattle.mm_text.specs.Outcomes.{Outcome}
 use Rattle.std.specs.Prelude.{Ok, Err, IfErr}
 use Rattle.mm_text.specs.Outcomes.{IsTextFault}
 use Rattle.mm_text.proofs.FaultLemmas.{reading_fits}
+use Rattle.mm_text.specs.Limits.{profile_of}
 use Rattle.mm_text.specs.Reading.{File, reading}
 use Rattle.mm_text.specs.declared.file_data.Form.TheVariants.{Coordinate}
 use Rattle.tpx.specs.declared.ending.Ending.{Ending}
@@ -39,7 +40,7 @@ judged-command n o e s is h two = absurd (omega arith)
 opened-command : (n : List ℕ) (t : Option (List ℕ)) (e : Ending) (s : ℕ) → s ≡ status_of e → EndsBy (opened n t) e → s ≡ 2 → ⊥
 opened-command n None NoCommand s is h two = h
 opened-command n None e s is h two = absurd (omega arith)
-opened-command n (Some text) e s is h two = judged-command n (reading Coordinate most_entries most_rows text) e s is h two
+opened-command n (Some text) e s is h two = judged-command n (reading (profile_of Coordinate most_entries most_rows) text) e s is h two
 
 pub told-command : (n : List ℕ) (told : Option (List ℕ → Option (List ℕ))) (e : Ending) (s : ℕ) → s ≡ status_of e →
     EndsBy (told_input n told) e → s ≡ 2 → ⊥
@@ -54,7 +55,7 @@ judged-name n m (Err x) f e = cc
 
 opened-name : (n m : List ℕ) (t : Option (List ℕ)) (f : MmFault) → opened n t ≡ refused m f → n ≡ m
 opened-name n m None f e = absurd (cc)
-opened-name n m (Some text) f e = judged-name n m (reading Coordinate most_entries most_rows text) f e
+opened-name n m (Some text) f e = judged-name n m (reading (profile_of Coordinate most_entries most_rows) text) f e
 
 pub told-name : (n m : List ℕ) (told : Option (List ℕ → Option (List ℕ))) (f : MmFault) → told_input n told ≡ refused m f → n ≡ m
 told-name n m None f e = absurd (cc)
@@ -91,7 +92,7 @@ judged-text n (Err x) f h e = subst IsTextFault (sym e) h
 opened-text : (n : List ℕ) (t : Option (List ℕ)) (f : MmFault) → EndsBy (opened n t) (Refused f) → IsTextFault f
 opened-text n None f e = absurd e
 opened-text n (Some text) f e =
-    judged-text n (reading Coordinate most_entries most_rows text) f (reading_fits Coordinate most_entries most_rows text) e
+    judged-text n (reading (profile_of Coordinate most_entries most_rows) text) f (reading_fits (profile_of Coordinate most_entries most_rows) text) e
 
 -- a file is refused for a fault of its text
 pub told-text : (n : List ℕ) (told : Option (List ℕ → Option (List ℕ))) (f : MmFault) → EndsBy (told_input n told) (Refused f) → IsTextFault f

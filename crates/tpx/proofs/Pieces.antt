@@ -1,13 +1,13 @@
 -- Texts that go to a sink one after the other.
 use Rattle.std.proofs.Common.{◌≡◌, ◌+◌, ◌<◌, ℕ, suc, List, ◌++◌, Option, length, get_or, drop, refl, ap, sym, ◌∙◌, subst, add-one, drop-cons, Bor}
 use Rattle.outside.specs.Bytes.{with_bytes}
-use Rattle.mm_text.specs.Taken.{TakesPrefix, HoldsBack}
+use Rattle.outside.specs.Writes.{TakesPrefix, HoldsBack}
 use Rattle.std.proofs.Common.{Result, Ok, Err, IsErr, OnOk, OnErr}
 use Rattle.outside.specs.Faults.{Rose}
 use Rattle.tpx.specs.Causes.{Says}
 use Rattle.std.proofs.Math.Seq.{take-length}
-use Rattle.mm_text.specs.declared.write_bytes.SinkFault.{SinkFault}
-use Rattle.mm_text.proofs.Taking.{HoldsBack-then, HoldsBack-fault, TakesPrefix-append, with_bytes-none}
+use Rattle.outside.specs.declared.sinks.SinkFault.{SinkFault}
+use Rattle.outside.proofs.Taking.{HoldsBack-then, HoldsBack-fault, TakesPrefix-append, with_bytes-none}
 use Rattle.tpx.specs.Messages.{joined}
 
 -- the texts from i on are that at i and those behind it

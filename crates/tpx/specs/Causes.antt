@@ -2,7 +2,7 @@
 use Rattle.std.specs.Prelude.{◌≡◌, ℕ, true, false, List, Option}
 use Rattle.outside.specs.Bytes.{with_bytes}
 use Rattle.outside.specs.Faults.{Rose}
-use Rattle.mm_text.specs.Taken.{TakesPrefix}
+use Rattle.outside.specs.Writes.{TakesPrefix}
 use Rattle.tpx.specs.Endings.{is_over}
 use Rattle.tpx.specs.Input.{Input, not_told, refused, shows}
 

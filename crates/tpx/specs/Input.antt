@@ -5,6 +5,7 @@ use Rattle.std.specs.Prelude.{ℕ, List, Option, None, Some, Ok, Err}
 use Rattle.mm_text.specs.declared.fault.MmFault.{MmFault}
 use Rattle.mm_text.specs.declared.file_data.Form.TheVariants.{Coordinate}
 use Rattle.mm_text.specs.Outcomes.{Outcome}
+use Rattle.mm_text.specs.Limits.{profile_of}
 use Rattle.mm_text.specs.Reading.{File, reading}
 use Rattle.tpx.specs.Words.{Command, show, command}
 
@@ -34,7 +35,7 @@ judged name (Err fault) = refused name fault
 -- the file of this name, if there is one, read as a coordinate file
 abbrev pub opened : List ℕ → Option (List ℕ) → Input
 opened name None = no_file name
-opened name (Some text) = judged name (reading Coordinate most_entries most_rows text)
+opened name (Some text) = judged name (reading (profile_of Coordinate most_entries most_rows) text)
 
 abbrev pub told_input : List ℕ → Option (List ℕ → Option (List ℕ)) → Input
 told_input name None = not_told

@@ -2,15 +2,15 @@
 ghost use Rattle.std.specs.Prelude.{◌≡◌, ◌∷◌, ◌++◌, List, ℕ, IsErr, OnErr, OnOk, codes, decimal};
 ghost use Rattle.outside.specs.Bytes.{with_bytes};
 ghost use Rattle.outside.specs.Faults.{Rose};
-ghost use Rattle.mm_text.specs.Taken.{TakesPrefix};
+ghost use Rattle.outside.specs.Writes.{TakesPrefix};
 ghost use Rattle.tpx.specs.Messages.{fault_line, fault_name, fault_number, joined, refused_message, unread_message};
 ghost use Rattle.tpx.specs.Causes.{Says};
 ghost use Rattle.tpx.specs.Endings.{message_of, status_of};
 
 use crate::ending::Ending;
 use itoa::Buffer;
-use mm_text::{MmFault, SinkFault, write_all};
-use outside::Sink;
+use mm_text::{MmFault, SinkFault};
+use outside::{Sink, write_all};
 
 /// The name of a fault.
 fn name_of(fault: &MmFault) -> &'static str

@@ -4,8 +4,9 @@ ghost use Rattle.outside.specs.Bytes.{with_bytes};
 ghost use Rattle.outside.specs.Faults.{Rose};
 ghost use Rattle.mm_text.specs.declared.file_data.Form.TheVariants.{Coordinate};
 ghost use Rattle.mm_text.specs.Reading.{File, file_of};
-ghost use Rattle.mm_text.specs.Sound.{IsSound};
-ghost use Rattle.mm_text.specs.Taken.{TakesPrefix};
+ghost use Rattle.mm_text.specs.Sound.{IsSound, KeepsLimits};
+ghost use Rattle.mm_text.specs.Limits.{profile_of};
+ghost use Rattle.outside.specs.Writes.{TakesPrefix};
 ghost use Rattle.tpx.specs.Endings.{EndsBy, IsOverflowOrMemory, IsUnreadOrMemory, IsWrittenOrNot, is_over, shown_of, text_of};
 ghost use Rattle.tpx.specs.Input.{most_entries, most_rows, shows, told_input};
 ghost use Rattle.tpx.specs.ReadFile.{EndsReading, IsAccepted, ending_at};
@@ -38,7 +39,8 @@ fn ending_of(fault: MmFault) -> Ending
 /// Reads a coordinate file.
 fn read_file<F: Files>(alloc: Global, files: &mut F, name: &str) -> Result<FileData, Ending>
     ensures accepted { IfOk result (λ found. IsAccepted (told_input name.now (F.told files.old)) (file_of found)) }
-    ensures sound { IfOk result (λ found. IsSound Coordinate most_entries most_rows (file_of found)) }
+    ensures sound { IfOk result (λ found. IsSound (file_of found)) }
+    ensures limits { IfOk result (λ found. KeepsLimits (profile_of Coordinate most_entries most_rows) (file_of found)) }
     ensures ends { IfErr result (EndsReading (told_input name.now (F.told files.old))) }
     ensures same_files { F.told files.new ≡ F.told files.old }
     ensures never_falls { (n : List ℕ) → F.faults files.old n ≤ F.faults files.new n }
@@ -65,7 +67,8 @@ fn read_file<F: Files>(alloc: Global, files: &mut F, name: &str) -> Result<FileD
 fn matrix_cells(alloc: Global, ranks: u32, file: &FileData) -> Result<Vec<Shown>, Ending>
     requires from { 1 ≤ ranks }
     requires to { ranks ≤ 32 }
-    requires sound { IsSound Coordinate most_entries most_rows (file_of file.now) }
+    requires sound { IsSound (file_of file.now) }
+    requires limits { KeepsLimits (profile_of Coordinate most_entries most_rows) (file_of file.now) }
     ensures shown { IfOk result (λ cells. cells.items ≡ shown_of (file_of file.now)) }
     ensures none_over { OnOk result (is_over (file_of file.now) ≡ false) }
     ensures over { IfErr result (λ ending. ending ≡ Ending.Overflow → is_over (file_of file.now) ≡ true) }

@@ -6,7 +6,7 @@ ghost use Rattle.outside.specs.Faults.{Rose};
 ghost use Rattle.mm_text.specs.declared.fault.MmFault.{MmFault};
 ghost use Rattle.mm_text.specs.Outcomes.{IsTextFault};
 ghost use Rattle.mm_text.specs.Reading.{File};
-ghost use Rattle.mm_text.specs.Taken.{TakesPrefix};
+ghost use Rattle.outside.specs.Writes.{TakesPrefix};
 ghost use Rattle.tpx.specs.declared.ending.Ending.{Ending};
 ghost use Rattle.tpx.specs.Causes.{MayBeRefused, MayBeShown, MayOverflow, Says};
 ghost use Rattle.tpx.specs.Endings.{is_over, status_of, text_of};

@@ -114,5 +114,5 @@ pub fn read_matrix<F: Files>(
     ensures limits { IfOk result (λ found. KeepsLimits (profile_of want room most) (file_of found)) }
 {
     let bytes = read_front(alloc, files, name)?;
-    read_text(alloc, &bytes, &Profile::new(want, room, most))
+    read_text(alloc, &bytes, Profile::new(want, room, most))
 }

@@ -5,10 +5,10 @@ ghost use Rattle.mm_text.specs.Lines.{words_in, words_of};
 ghost use Rattle.mm_text.specs.Sizes.{announced, array_announced, coordinate_announced, is_plain, limited, sizes_of};
 ghost use Rattle.mm_text.specs.Cut.{cut_sizes};
 
+use crate::profile::Profile;
 use crate::reading::banner::{Banner, Kind};
 use crate::reading::numerals::count;
 use crate::reading::words::{three_words, two_words, without_return};
-use crate::profile::Profile;
 use crate::{Mirror, MmFault};
 
 /// Rows, columns, and the number of entries.
@@ -68,8 +68,8 @@ fn is_plain(mirror: Mirror) -> bool
 }
 
 /// The sizes, where they keep the limits.
-fn limited(mirror: Mirror, profile: &Profile, sizes: Sizes) -> Result<Sizes, MmFault>
-    ensures { result ≡ limited mirror profile.now sizes }
+fn limited(mirror: Mirror, profile: Profile, sizes: Sizes) -> Result<Sizes, MmFault>
+    ensures { result ≡ limited mirror profile sizes }
 {
     if sizes.rows > profile.rows || sizes.cols > profile.cols {
         return Err(MmFault::BadSize);
@@ -84,12 +84,12 @@ fn limited(mirror: Mirror, profile: &Profile, sizes: Sizes) -> Result<Sizes, MmF
 }
 
 /// The sizes of a size line.
-pub fn read_sizes(banner: Banner, profile: &Profile, line: &[u8]) -> Result<Sizes, MmFault>
-    requires { IsReadable profile.now }
-    ensures sizes { result ≡ sizes_of banner profile.now (words_of line.now) }
-    ensures rows { IfOk result (λ sizes. sizes.rows ≤ profile.now.rows) }
-    ensures cols { IfOk result (λ sizes. sizes.cols ≤ profile.now.cols) }
-    ensures count { IfOk result (λ sizes. sizes.count ≤ profile.now.entries) }
+pub fn read_sizes(banner: Banner, profile: Profile, line: &[u8]) -> Result<Sizes, MmFault>
+    requires { IsReadable profile }
+    ensures sizes { result ≡ sizes_of banner profile (words_of line.now) }
+    ensures rows { IfOk result (λ sizes. sizes.rows ≤ profile.rows) }
+    ensures cols { IfOk result (λ sizes. sizes.cols ≤ profile.cols) }
+    ensures count { IfOk result (λ sizes. sizes.count ≤ profile.entries) }
     ensures dense { IfOk result (λ sizes. banner.kind ≡ Kind.Dense → sizes.count ≡ sizes.rows * sizes.cols) }
 {
     match announced(banner.kind, without_return(line)) {

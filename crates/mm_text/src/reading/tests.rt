@@ -1,4 +1,5 @@
 //! Small texts with what they are read as, and the reads that fail.
+use crate::profile::Profile;
 use crate::reading::text::read_text;
 use crate::{FileData, Form, MmFault, read_matrix};
 use outside::{Failed, Files};
@@ -62,7 +63,11 @@ fn in_words(alloc: Global, found: Result<FileData, MmFault>) -> Result<String, F
 fn answer(alloc: Global, want: Form, text: &str) -> Result<String, Fail> {
     in_words(
         alloc,
-        read_text(alloc, text.as_bytes(), want, 8_388_608, 16_777_216),
+        read_text(
+            alloc,
+            text.as_bytes(),
+            Profile::new(want, 8_388_608, 16_777_216),
+        ),
     )
 }
 

@@ -5,11 +5,11 @@ ghost use Rattle.mm_text.specs.Lines.{kept_from, lines_of};
 ghost use Rattle.mm_text.specs.Outcomes.{Gives};
 ghost use Rattle.mm_text.specs.Reading.{entries_in, file_of, lines_read, reading, sized};
 
+use crate::profile::Profile;
 use crate::reading::banner::{Banner, Kind, read_banner};
 use crate::reading::entries::read_entry;
 use crate::reading::lines::{next_kept, next_line};
 use crate::reading::sizes::{Sizes, read_sizes};
-use crate::profile::Profile;
 use crate::{FileData, Line, MmFault};
 use std::alloc::Global;
 
@@ -80,13 +80,13 @@ fn read_entries(
 fn read_sized(
     alloc: Global,
     banner: Banner,
-    profile: &Profile,
+    profile: Profile,
     whole: bool,
     bytes: &[u8],
 ) -> Result<FileData, MmFault>
-    requires readable { IsReadable profile.now }
+    requires readable { IsReadable profile }
     requires length { length bytes.now ≤ most_bytes }
-    ensures { Gives file_of result (sized whole profile.now banner (kept_from 2 (lines_of whole bytes.now))) }
+    ensures { Gives file_of result (sized whole profile banner (kept_from 2 (lines_of whole bytes.now))) }
 {
     match next_kept(bytes, 2, whole) {
         None => Err(end_fault(whole, MmFault::BadSize)),
@@ -106,13 +106,13 @@ fn read_sized(
 /// The file of lines.
 fn read_lines(
     alloc: Global,
-    profile: &Profile,
+    profile: Profile,
     whole: bool,
     bytes: &[u8],
 ) -> Result<FileData, MmFault>
-    requires readable { IsReadable profile.now }
+    requires readable { IsReadable profile }
     requires length { length bytes.now ≤ most_bytes }
-    ensures { Gives file_of result (lines_read whole profile.now (lines_of whole bytes.now)) }
+    ensures { Gives file_of result (lines_read whole profile (lines_of whole bytes.now)) }
 {
     match next_line(bytes, whole) {
         None => Err(end_fault(whole, MmFault::NoBanner)),
@@ -124,9 +124,9 @@ fn read_lines(
 }
 
 /// The file of a text, or its first fault.
-pub fn read_text(alloc: Global, bytes: &[u8], profile: &Profile) -> Result<FileData, MmFault>
-    requires { IsReadable profile.now }
-    ensures { Gives file_of result (reading profile.now bytes.now) }
+pub fn read_text(alloc: Global, bytes: &[u8], profile: Profile) -> Result<FileData, MmFault>
+    requires { IsReadable profile }
+    ensures { Gives file_of result (reading profile bytes.now) }
 {
     if bytes.len() <= profile.bytes {
         read_lines(alloc, profile, true, bytes)

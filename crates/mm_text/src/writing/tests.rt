@@ -136,4 +136,3 @@ fn a_fault_leaves_a_prefix_of_a_long_text(rt: HostRuntime) -> Result<(), Fail> {
     }
     Ok(())
 }
-

@@ -1,5 +1,5 @@
-use Rattle.mm_text.proofs.SoundLemmas.{reading_sound}
+use Rattle.mm_text.proofs.SoundLemmas.{reading_kept}
 use Rattle.mm_text.proofs.laws.sound_files.Goals as goal
 
 pub returns : goal.returns
-returns c = reading_sound
+returns c = λ profile text file e. (reading_kept profile text file e).sound

@@ -1,5 +1,5 @@
 use Rattle.std.proofs.Common.{◌≡◌, drop}
-use Rattle.mm_text.specs.Taken.{HoldsBack}
+use Rattle.outside.specs.Writes.{HoldsBack}
 use Rattle.tpx.specs.Messages.{joined}
 use Rattle.tpx.proofs.messages.write_pieces.Given as goal
 

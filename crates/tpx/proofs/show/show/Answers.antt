@@ -1,7 +1,7 @@
 use Rattle.std.proofs.Common.{ap, subst, ◌∙◌}
 use Rattle.outside.specs.Bytes.{with_bytes}
 use Rattle.mm_text.specs.Reading.{File}
-use Rattle.mm_text.specs.Taken.{TakesPrefix}
+use Rattle.outside.specs.Writes.{TakesPrefix}
 use Rattle.tpx.specs.Endings.{text_of}
 use Rattle.tpx.proofs.Ends.{ends_reading, unfailed_reading, unwritten_reading, ends_between, ends_writing, accepted-is, unwritten_between}
 use Rattle.tpx.proofs.show.show.Goals as goal

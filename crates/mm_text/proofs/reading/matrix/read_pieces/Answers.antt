@@ -16,8 +16,8 @@ pub loop-bytes-preserved : goal.loop-bytes-preserved
 loop-bytes-preserved g c =
     let len : c.len-in-loop-bytes.result ≡ length c.loop-bytes.bytes.items = omega (arith, c.loop-bytes.bytes.ok.0, c.len-in-loop-bytes.ensures) in
     record {
-      told = c.in_ok-count.ensures.same_files ∙ c.loop-bytes.invariant.told;
-      no_fault = λ n. c.in_ok-count.ensures.no_fault n ∙ c.loop-bytes.invariant.no_fault n;
+      told = c.in_ok-count.ensures.reads.same_files ∙ c.loop-bytes.invariant.told;
+      no_fault = λ n. c.in_ok-count.ensures.reads.no_fault (λ e. cc) n ∙ c.loop-bytes.invariant.no_fault n;
       most = omega (arith, c.in_ok-count.ensures.length, c.in_ok-count.ensures.within, length-take c.min-room.result c.loop-bytes.piece, c.min-room.ensures, len, c.loop-bytes-test.true);
       front = λ source told.
           let read = c.in_ok-count.ensures.read source (c.loop-bytes.invariant.told ∙ told) in

@@ -1,23 +1,23 @@
-use Rattle.std.proofs.Common.{subst, sym, arith}
+use Rattle.std.proofs.Common.{subst, sym, arith, ◌≡◌, length, take}
 use Rattle.std.proofs.lemmas.List.{length-take-le}
-use Rattle.mm_text.specs.Limits.{most_bytes}
 use Rattle.mm_text.specs.Outcomes.{Gives}
 use Rattle.mm_text.specs.Reading.{file_of}
 use Rattle.mm_text.proofs.ReadingLemmas.{reading_long, reading_whole}
 use Rattle.mm_text.proofs.reading.text.read_text.Goals as goal
 
 pub slice_bounds-read_lines-end : goal.slice_bounds-read_lines-end
-slice_bounds-read_lines-end c = sym (length-take-le most_bytes c.args.bytes.now (omega arith))
+slice_bounds-read_lines-end c = sym (length-take-le c.args.profile.bytes c.args.bytes.now (omega arith))
 
-pub read_lines-requires-else-bytes-le-MOST_BYTES-clause-length : goal.read_lines-requires-else-bytes-le-MOST_BYTES-clause-length
-read_lines-requires-else-bytes-le-MOST_BYTES-clause-length c = omega (arith, length-take-le most_bytes c.args.bytes.now (omega arith))
+pub read_lines-requires-else-bytes-profile-clause-length : goal.read_lines-requires-else-bytes-profile-clause-length
+read_lines-requires-else-bytes-profile-clause-length c =
+    omega (arith, length-take-le c.args.profile.bytes c.args.bytes.now (omega arith), c.requires.bytes)
 
-pub returns-then-bytes-le-MOST_BYTES : goal.returns-then-bytes-le-MOST_BYTES
-returns-then-bytes-le-MOST_BYTES c =
+pub returns-then-bytes-profile : goal.returns-then-bytes-profile
+returns-then-bytes-profile c =
     subst (λ r. Gives file_of c.read_lines.result r)
-    (sym (reading_whole c.args.want c.args.room c.args.most c.args.bytes.now c.if-bytes-le-MOST_BYTES.true)) c.read_lines.ensures
+    (sym (reading_whole c.args.profile c.args.bytes.now (omega arith))) c.read_lines.ensures
 
-pub returns-else-bytes-le-MOST_BYTES : goal.returns-else-bytes-le-MOST_BYTES
-returns-else-bytes-le-MOST_BYTES c =
-    subst (λ r. Gives file_of c.read_lines-else-bytes-le-MOST_BYTES.result r)
-    (sym (reading_long c.args.want c.args.room c.args.most c.args.bytes.now c.if-bytes-le-MOST_BYTES.false)) c.read_lines-else-bytes-le-MOST_BYTES.ensures
+pub returns-else-bytes-profile : goal.returns-else-bytes-profile
+returns-else-bytes-profile c =
+    subst (λ r. Gives file_of c.read_lines-else-bytes-profile.result r)
+    (sym (reading_long c.args.profile c.args.bytes.now (omega arith))) c.read_lines-else-bytes-profile.ensures

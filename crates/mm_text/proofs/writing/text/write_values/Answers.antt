@@ -1,16 +1,31 @@
-use Rattle.std.proofs.Common.{◌∙◌}
-use Rattle.mm_text.specs.Written.{value_words}
-use Rattle.mm_text.proofs.WrittenLines.{OnErr-from, HoldsBack-line, TakesPrefix-lines}
+use Rattle.std.proofs.Common.{◌∙◌, ◌++◌, arith, ap, map, refl}
+use Rattle.std.proofs.lemmas.List.{take_all}
+use Rattle.outside.proofs.Taking.{HoldsBack-is, WritesAndHolds-failed}
+use Rattle.mm_text.specs.Written.{value_words, lines_text}
+use Rattle.mm_text.proofs.WrittenLines.{HoldsBack-line, TakesPrefix-lines}
 use Rattle.mm_text.proofs.writing.text.write_values.Goals as goal
 
-pub returns-in_err-make_room-clause-prefix : goal.returns-in_err-make_room-clause-prefix
-returns-in_err-make_room-clause-prefix g c = OnErr-from c.from_residual.result
+pub returns-in_err-make_room : goal.returns-in_err-make_room
+returns-in_err-make_room g c =
+    WritesAndHolds-failed _ g.O.Sink.faults _ c.loop-value.out _ _ _ _ c.from_residual.ensures.0 c.loop-value.invariant.no_fault
     (TakesPrefix-lines value_words c.args.values.now c.loop-value.value-index _ _ _ c.args.page.now.items
-    c.loop-value.page.items c.loop-value.invariant.held c.in_err-make_room.ensures.prefix)
+    c.loop-value.page.items c.loop-value.invariant.held c.in_err-make_room.ensures.writes.prefix)
+    c.in_err-make_room.ensures.writes.fault c.in_err-make_room.ensures.writes.never_falls
 
 pub loop-value-preserved : goal.loop-value-preserved
 loop-value-preserved g c = record {
   held = HoldsBack-line value_words c.args.values.now c.loop-value.value-index _ _ _ _ c.args.page.now.items _ _ _
-      c.loop-value-test.true c.loop-value.invariant.held c.in_ok-make_room.ensures.held c.push_entry.ensures.items;
-  no_fault = c.in_ok-make_room.ensures.no_fault ∙ c.loop-value.invariant.no_fault;
+      c.loop-value-test.true c.loop-value.invariant.held c.in_ok-make_room.ensures.writes.taken c.push_entry.ensures.items;
+  no_fault = c.in_ok-make_room.ensures.writes.no_fault ∙ c.loop-value.invariant.no_fault;
+}
+
+pub returns : goal.returns
+returns g c = record {
+  taken = HoldsBack-is _ _ _ _ _ _ refl
+      (ap (λ xs. c.args.page.now.items ++ lines_text (map value_words xs)) (take_all c.loop-value.value-index c.args.values.now (omega arith)))
+      c.loop-value.invariant.held;
+  no_fault = c.loop-value.invariant.no_fault;
+  prefix = tt;
+  fault = tt;
+  never_falls = omega (arith, c.loop-value.invariant.no_fault);
 }
