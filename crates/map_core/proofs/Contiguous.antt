@@ -11,6 +11,8 @@ use Rattle.map_core.specs.Layouts.{stands, AreDistinct, rank_list, owner, IsLayo
 use Rattle.map_core.specs.Uniform.{uniform_count, uniform_first, uniform_list, uniform_layout}
 use Rattle.map_core.proofs.Owners.{owner-has, owner_from-only}
 use Rattle.map_core.proofs.Runs.{stands_in_run, within_run, AreDistinct-run, run-append}
+use Rattle.map_core.specs.Strides.{stride_list}
+use Rattle.map_core.proofs.Strides.{stride-run}
 
 pub first_next : (P n p : ℕ) → uniform_first P n (p + 1) ≡ uniform_first P n p + uniform_count P n p
 first_next P n p = grind (arith, nat_tests)
@@ -163,11 +165,19 @@ monotone P n i j p q h a b = elim (cases_lt q p) [
 -- the maps of the first k ranks, after the map of rank k is pushed
 pub lists_push : {X : Type 0} (value : X → List ℕ) (P n k first count : ℕ) (before after : List X) (x : X)
     → after ≡ before ++ x ∷ [] → map value before ≡ map (uniform_list P n) (range_with_len 0 k)
-    → value x ≡ range_with_len first count → first ≡ uniform_first P n k → count ≡ uniform_count P n k
+    → value x ≡ stride_list first 1 count → first ≡ uniform_first P n k → count ≡ uniform_count P n k
     → map value after ≡ map (uniform_list P n) (range_with_len 0 (k + 1))
 lists_push value P n k first count before after x pushed kept run at many =
     ap (map value) pushed
     ∙ map-append value before (x ∷ [])
     ∙ ap (λ ls. ls ++ value x ∷ []) kept
-    ∙ ap (λ l. map (uniform_list P n) (range_with_len 0 k) ++ l ∷ []) (run ∙ ap (λ a. range_with_len a count) at ∙ ap (range_with_len (uniform_first P n k)) many)
+    ∙ ap (λ l. map (uniform_list P n) (range_with_len 0 k) ++ l ∷ []) (run ∙ stride-run first count ∙ ap (λ a. range_with_len a count) at ∙ ap (range_with_len (uniform_first P n k)) many)
     ∙ sym (map-range_with_len_more (uniform_list P n) 0 k k (omega arith))
+
+-- the last index of a rank is below the size, so it fits where the size does
+pub first_room : (P n p : ℕ) → 0 < P → p < P → uniform_first P n p + uniform_count P n p ≤ n
+first_room P n p some h =
+    let next = first_next P n p in
+    let before : uniform_first P n (p + 1) ≤ uniform_first P n P = first_le P n (p + 1) P (omega arith) in
+    let end = first_end P n some in
+    omega arith

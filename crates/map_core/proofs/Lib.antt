@@ -8,3 +8,9 @@ pub mod Classes
 pub mod Parting
 pub mod Accepted
 pub mod OneClass
+pub mod Strides
+pub mod Cyclic
+pub mod Blocks
+pub mod Homes
+pub mod Unions
+pub mod MapFaults

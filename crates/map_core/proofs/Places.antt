@@ -1,5 +1,5 @@
 -- The place of an index in a list of distinct indices.
-use Rattle.std.proofs.Common.{◌≡◌, ◌<◌, ◌↔◌, ℕ, zero, suc, true, false, List, [], ◌∷◌, length, get_or, Some, nat_eq, nat_lt, inl, inr, sym, ap, ◌∙◌, arith}
+use Rattle.std.proofs.Common.{◌≡◌, ◌<◌, ◌↔◌, ℕ, zero, suc, true, false, List, [], ◌∷◌, length, get_or, Option, None, Some, nat_eq, nat_lt, inl, inr, refl, sym, ap, ◌∙◌, arith}
 use Rattle.std.specs.List.{position_or_len}
 use Rattle.std.proofs.lemmas.Bool.{cases_Bool, eqb-true}
 use Rattle.std.proofs.lemmas.Bool.Decides.{nat_tests}
@@ -42,3 +42,14 @@ global_index-from xs g l there =
 
 pub inverse : (xs : List ℕ) (g l : ℕ) → AreDistinct xs → (local_index xs g ≡ Some l) ↔ (global_index xs l ≡ Some g)
 inverse xs g l distinct = (global_index-from xs g l, local_index-from xs g l distinct)
+
+-- an index that does not stand in the list has no local index
+pub local_index-absent : (xs : List ℕ) (g : ℕ) → stands g xs ≡ false → local_index xs g ≡ None
+local_index-absent xs g h = none (local_index xs g) refl
+  where
+    none : (o : Option ℕ) → local_index xs g ≡ o → local_index xs g ≡ None
+    none None e = e
+    none (Some l) e =
+        let place = position-Some (nat_eq g) xs l 0 e in
+        let there : stands g xs ≡ true = sym (stands-list_any g xs) ∙ list_any_at (nat_eq g) xs l 0 place.0 place.1 in
+        absurd (cc)

@@ -6,3 +6,9 @@ pub mod Classes
 pub mod Parts
 pub mod BuilderFields
 pub mod PlanBuilders
+pub mod Blocks
+pub mod Cyclic
+pub mod Homes
+pub mod Strides
+pub mod Kept
+pub mod Checked

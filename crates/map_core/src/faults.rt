@@ -68,3 +68,39 @@ impl<T: Drop> From<AllocFailed<T>> for HeldFault {
         HeldFault::NoMem
     }
 }
+
+/// Why lists of global indices, one for each rank, make no `Layout`.
+#[derive(Debug, Drop, Error)]
+pub enum MapFault {
+    /// The index stands twice in the list of the rank.
+    #[error("Repeated {rank} {gid}")]
+    Repeated { rank: u32, gid: Gid },
+    /// The list of the rank has an index that is not below the size.
+    #[error("OutOfSize {rank} {gid}")]
+    OutOfSize { rank: u32, gid: Gid },
+    /// Memory ran out.
+    #[error("NoMem")]
+    NoMem,
+}
+
+impl From<AllocError> for MapFault {
+    ghost use Rattle.std.specs.Prelude.{◌≡◌};
+    ghost use Rattle.map_core.specs.declared.faults.MapFault.TheVariants.{NoMem};
+
+    ghost from_gives = { λ _ e. e ≡ NoMem };
+
+    fn from(_: AllocError) -> MapFault {
+        MapFault::NoMem
+    }
+}
+
+impl<T: Drop> From<AllocFailed<T>> for MapFault {
+    ghost use Rattle.std.specs.Prelude.{◌≡◌};
+    ghost use Rattle.map_core.specs.declared.faults.MapFault.TheVariants.{NoMem};
+
+    ghost from_gives = { λ _ e. e ≡ NoMem };
+
+    fn from(_: AllocFailed<T>) -> MapFault {
+        MapFault::NoMem
+    }
+}

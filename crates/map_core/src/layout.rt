@@ -1,10 +1,14 @@
 //! The indices of all ranks.
-ghost use Rattle.std.specs.Prelude.{◌≡◌, ◌<◌, ◌≤◌, length, IfOk};
-ghost use Rattle.map_core.specs.Layouts.{rank_list, IsLayout};
+ghost use Rattle.std.specs.Prelude.{◌≡◌, ◌<◌, ◌≤◌, ◌^◌, ◌↔◌, true, length, map, sum, All, IfOk, IfErr};
+ghost use Rattle.map_core.specs.Layouts.{Layout, rank_list, IsLayout, IsOneToOne, IsTotal};
 ghost use Rattle.map_core.specs.Uniform.{uniform_layout};
+ghost use Rattle.map_core.specs.Blocks.{blocks_layout};
+ghost use Rattle.map_core.specs.Cyclic.{cyclic_layout};
+ghost use Rattle.map_core.specs.Faults.{IsMapFaultOf};
 
+use crate::lists::{checked_list, union};
 use crate::uniform::uniform_len;
-use crate::{Gid, LocalMap};
+use crate::{Gid, LocalMap, MapFault};
 use std::alloc::{AllocError, Global};
 use std::marker::Model;
 use std::rc::Rc;
@@ -15,17 +19,21 @@ use std::rc::Rc;
 pub struct Layout {
     size: Gid,
     maps: Vec<Rc<LocalMap>>,
+    one_to_one: bool,
+    total: bool,
 }
 
 impl Model for Layout {
-    ghost use Rattle.std.specs.Prelude.{◌≤◌, map, length};
-    ghost use Rattle.map_core.specs.Layouts.{Layout, IsLayout};
+    ghost use Rattle.std.specs.Prelude.{map};
+    ghost use Rattle.map_core.specs.Layouts.{Layout};
 
     ghost Value = { Layout };
 
+    ghost use Rattle.map_core.specs.Checked.{IsChecked};
+
     ghost view = { λ a. record { size = a.size; lists = map (λ m. m.value) a.maps.items } };
 
-    ghost invariant = { λ a. (1 ≤ length a.maps.items) × (length a.maps.items ≤ 32) × IsLayout (record { size = a.size; lists = map (λ m. m.value) a.maps.items }) };
+    ghost invariant = { λ a. IsChecked (record { size = a.size; lists = map (λ m. m.value) a.maps.items }) a.one_to_one a.total };
 }
 
 impl Layout {
@@ -41,10 +49,92 @@ impl Layout {
         let mut first = 0;
         for rank in 0..ranks {
             let count = uniform_len(ranks, size, rank);
-            maps.push(LocalMap::run(alloc, first, count)?)?;
+            maps.push(LocalMap::strided(alloc, first, 1, count)?)?;
             first += count as Gid;
         }
-        Ok(Layout { size, maps })
+        Ok(Layout {
+            size,
+            maps,
+            one_to_one: true,
+            total: true,
+        })
+    }
+
+    /// The layout of consecutive runs: each of 1 to 32 ranks has as many indices, in order, as its count says. The size is
+    /// the sum of the counts, at most 16,777,216 (`Tpetra::Map`, contiguous). `Err` means that memory ran out.
+    pub fn blocks(alloc: Global, counts: &[u32]) -> Result<Layout, AllocError>
+        requires some_rank { 1 ≤ length counts.now }
+        requires ranks_limit { length counts.now ≤ 32 }
+        requires size_limit { sum counts.now ≤ 16777216 }
+        ensures blocks { IfOk result (λ layout. layout ≡ blocks_layout counts.now) }
+    {
+        let mut maps = Vec::with_capacity(alloc, counts.len())?;
+        let mut first = 0;
+        for count in counts {
+            maps.push(LocalMap::strided(alloc, first, 1, *count)?)?;
+            first += *count as Gid;
+        }
+        Ok(Layout {
+            size: first,
+            maps,
+            one_to_one: true,
+            total: true,
+        })
+    }
+
+    /// The cyclic layout: each index below the size is on rank `index % ranks`, of 1 to 32 ranks, and each rank has its
+    /// indices in ascending order. The size is at most 16,777,216. `Err` means that memory ran out.
+    pub fn cyclic(alloc: Global, ranks: u32, size: Gid) -> Result<Layout, AllocError>
+        requires some_rank { 1 ≤ ranks }
+        requires ranks_limit { ranks ≤ 32 }
+        requires size_limit { size ≤ 16777216 }
+        ensures cyclic { IfOk result (λ layout. layout ≡ cyclic_layout ranks size) }
+    {
+        let mut maps = Vec::with_capacity(alloc, ranks as usize)?;
+        for rank in 0..ranks {
+            let count = uniform_len(ranks, size, rank);
+            maps.push(LocalMap::strided(alloc, rank as Gid, ranks as Gid, count)?)?;
+        }
+        Ok(Layout {
+            size,
+            maps,
+            one_to_one: true,
+            total: true,
+        })
+    }
+
+    /// The layout that has these lists, one for each of 1 to 32 ranks, each of fewer than 2^32 indices. The size is at
+    /// most 2^40.
+    ///
+    /// The lists are walked in the order of ranks and places, and the first fault is answered: `OutOfSize` exactly where
+    /// an index is not below the size, and else `Repeated` exactly where it stands earlier in the list of its rank.
+    /// `NoMem` means that memory ran out.
+    pub fn from_lists(alloc: Global, size: Gid, lists: &[Vec<Gid>]) -> Result<Layout, MapFault>
+        requires some_rank { 1 ≤ length lists.now }
+        requires ranks_limit { length lists.now ≤ 32 }
+        requires few { All (λ list. length list.items < 2 ^ 32) lists.now }
+        requires size_limit { size ≤ 2 ^ 40 }
+        ensures kept { IfOk result (λ layout. layout ≡ record { size = size; lists = map (λ list. list.items) lists.now }) }
+        ensures sound { IfOk result (λ layout. IsLayout layout) }
+        ensures refused { IfErr result (IsMapFaultOf size (map (λ list. list.items) lists.now)) }
+    {
+        let mut maps = Vec::with_capacity(alloc, lists.len())?;
+        for (rank, list) in lists.iter().enumerate() {
+            match checked_list(alloc, rank as u32, size, list) {
+                Ok(map) => maps.push(map)?,
+                Err(fault) => return Err(fault),
+            }
+        }
+        let (all, count) = union(alloc, lists)?;
+        let distinct = all.len() as u64;
+        let one_to_one = distinct == count;
+        let total = distinct == size;
+        Ok(Layout {
+            size,
+            maps,
+            one_to_one,
+            total,
+        })
     }
 
     /// How many ranks there are: 1 to 32.
@@ -70,5 +160,19 @@ impl Layout {
         ensures list { result.now.value ≡ rank_list self.now rank }
     {
         &self.maps[rank as usize]
+    }
+
+    /// Whether no index stands in the lists of two ranks (`Tpetra::Map::isOneToOne`). This takes constant time.
+    pub fn is_one_to_one(&self) -> bool
+        ensures exact { (result ≡ true) ↔ IsOneToOne self.now }
+    {
+        self.one_to_one
+    }
+
+    /// Whether each index below the size stands in the list of a rank. This takes constant time.
+    pub fn is_total(&self) -> bool
+        ensures exact { (result ≡ true) ↔ IsTotal self.now }
+    {
+        self.total
     }
 }

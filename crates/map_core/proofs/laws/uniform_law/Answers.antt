@@ -1,4 +1,4 @@
-use Rattle.map_core.proofs.Contiguous.{is_layout-uniform, joined, length-rank_list-uniform, length-uniform, one_to_one, total}
+use Rattle.map_core.proofs.Contiguous.{is_layout-uniform, joined, length-rank_list-uniform, length-uniform, one_to_one, owner-uniform, total}
 use Rattle.map_core.proofs.laws.uniform_law.Goals as goal
 
 pub returns : goal.returns
@@ -8,5 +8,6 @@ returns c = record {
   total = total c.args.ranks c.args.size c.requires.some_rank;
   ranks = length-uniform c.args.ranks c.args.size;
   counts = length-rank_list-uniform c.args.ranks c.args.size;
+  owners = λ g p known low high. owner-uniform c.args.ranks c.args.size g p known low high;
   in_order = joined c.args.ranks c.args.size c.requires.some_rank;
 }

@@ -1,6 +1,10 @@
-use Rattle.std.proofs.Common.{sym}
+use Rattle.std.proofs.Common.{◌≡◌, subst, sym, ap, ◌∙◌}
+use Rattle.map_core.specs.Layouts.{AreDistinct}
+use Rattle.map_core.specs.Kept.{kept_list}
 use Rattle.map_core.proofs.Members.{AreDistinct-from_set}
 use Rattle.map_core.proofs.local_map.LocalMap.len.Goals as goal
 
-pub returns-clause-distinct : goal.returns-clause-distinct
-returns-clause-distinct c = rw (sym c.self.view_is) (AreDistinct-from_set c.self.inside.gids.keys c.len.ensures.unique)
+pub returns-in-Listed-clause-distinct : goal.returns-in-Listed-clause-distinct
+returns-in-Listed-clause-distinct c =
+    let list : c.in-Listed.gids.keys ≡ c.args.self.now = sym (ap kept_list c.in-Listed.is) ∙ c.self.view_is in
+    subst AreDistinct list (AreDistinct-from_set c.in-Listed.gids.keys c.len.ensures.unique)
