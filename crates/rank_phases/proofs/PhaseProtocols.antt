@@ -38,8 +38,8 @@ module _ (P : Protocol) (n : Name) (waits : P.before n ≡ filter (λ m. (m.to =
       let two = and_parts (m.to == n.from) _ parts.0 in
       (eqb-true m.to n.from two.0, ltb-true m.phase n.phase two.1, parts.1)
 
-  swapped : (k : ℕ) (ls : List (Name × List ℕ)) → arrivals k n.from (only (P.before n) ls) ≡ only (P.before n) (arrivals k n.from ls)
-  swapped k ls =
+  pub arrivals-only : (k : ℕ) (ls : List (Name × List ℕ)) → arrivals k n.from (only (P.before n) ls) ≡ only (P.before n) (arrivals k n.from ls)
+  arrivals-only k ls =
       filter-filter (λ l. (l.0.phase == k) && (l.0.to == n.from)) (λ l. stands_in (P.before n) l.0) ls
       ∙ filter-same _ _ (λ l. swap (stands_in (P.before n) l.0) ((l.0.phase == k) && (l.0.to == n.from))) ls
       ∙ sym (filter-filter (λ l. stands_in (P.before n) l.0) (λ l. (l.0.phase == k) && (l.0.to == n.from)) ls)
@@ -64,7 +64,7 @@ module _ (P : Protocol) (n : Name) (waits : P.before n ≡ filter (λ m. (m.to =
   arrivals-before g h same k = go (cases_lt k n.phase)
     where
       go : (k < n.phase) ⊎ (n.phase ≤ k) → arrivals k n.from (only (P.before n) g) ≡ arrivals k n.from (only (P.before n) h)
-      go (inl lt) = swapped k g ∙ ap (only (P.before n)) (same k lt) ∙ sym (swapped k h)
+      go (inl lt) = arrivals-only k g ∙ ap (only (P.before n)) (same k lt) ∙ sym (arrivals-only k h)
       go (inr le) = none_later k le g ∙ sym (none_later k le h)
 
   -- of letters to its sender each of an earlier phase is before it

@@ -34,6 +34,7 @@ mod outbox;
 mod phase_names;
 mod phased;
 mod phased_peer;
+mod room;
 mod worker;
 
 pub use early::Early;
@@ -41,4 +42,5 @@ pub use letter::Letter;
 pub use outbox::Outbox;
 pub use phase_names::{names_from_others, names_to_others};
 pub use phased::Phased;
+pub use room::lease_block;
 pub use worker::{Entered, Worker};

@@ -1,0 +1,4 @@
+use Rattle.gather_example.proofs.play.play_ranks.Given as goal
+
+abbrev pub ghost-play : goal.ghost-play
+ghost-play g a = g.protocol
