@@ -3,6 +3,7 @@ use Rattle.std.proofs.Common.{◌≡◌, List, Bool, true, false, cond, Option, 
 use Rattle.std.specs.BTreeMap.{BTreeMap, UpdatesBy, get}
 use Rattle.std.specs.Map.{lookup}
 use Rattle.std.specs.Option.{option_map, option_and_then}
+use Rattle.std.specs.Rc.{rc_slice_items}
 use Rattle.std.proofs.lemmas.Map.Made.{lookup-map_values}
 use Rattle.outside.specs.declared.name.Name.{Name}
 use Rattle.outside.specs.declared.letter_box.Letter.{Letter}
@@ -12,7 +13,7 @@ use Rattle.outside.proofs.Names.{name_cmp, is_eq-name_cmp, same_name-is}
 
 -- what contracts see of a letter
 abbrev pub posted_letter : Letter → PostedLetter
-posted_letter l = record { bytes = l.bytes.items; is_pending = l.is_pending }
+posted_letter l = record { bytes = rc_slice_items l.bytes; is_pending = l.is_pending }
 
 -- what contracts see of the letters
 abbrev pub posted_letters : BTreeMap Name Letter → List (Name × PostedLetter)
@@ -79,13 +80,13 @@ module _ (old new : List (Name × PostedLetter)) (name : Name) (w : PostedLetter
   pub posted_in-stays : posted_in old name ≡ Some w.bytes → posted_in new ≡ posted_in old
   posted_in-stays was i n = (ap (λ f. f n) posted_in-put ∙ stays_where n (same_name name n) refl was) i
 
-option_map-twice : (o : Option Letter) → option_map (λ l. l.bytes) (option_map posted_letter o) ≡ option_map (λ l. l.bytes.items) o
+option_map-twice : (o : Option Letter) → option_map (λ l. l.bytes) (option_map posted_letter o) ≡ option_map (λ l. rc_slice_items l.bytes) o
 option_map-twice None = refl
 option_map-twice (Some l) = refl
 
 -- the posted bytes are those of the letter in the map
 pub posted_in-map : (m : BTreeMap Name Letter) (n : Name) →
-    posted_in (posted_letters m) n ≡ option_map (λ l. l.bytes.items) (get name_cmp m n)
+    posted_in (posted_letters m) n ≡ option_map (λ l. rc_slice_items l.bytes) (get name_cmp m n)
 posted_in-map m n = ap (option_map (λ l. l.bytes)) (lookup-posted m n) ∙ option_map-twice (get name_cmp m n)
 
 -- The letter of the name, where there is one, is no longer pending.
@@ -95,13 +96,13 @@ module _ (old new : BTreeMap Name Letter) (name : Name) (letter : Letter)
   pub pending_in-marked : pending_in (posted_letters new) ≡ without_letter (pending_in (posted_letters old)) name
   pending_in-marked =
       pending_in-taken (posted_letters old) (posted_letters new) name
-      (record { bytes = letter.bytes.items; is_pending = false }) (lookup-updates old new name _ updates) refl
+      (record { bytes = rc_slice_items letter.bytes; is_pending = false }) (lookup-updates old new name _ updates) refl
 
   pub posted_in-marked : posted_in (posted_letters new) ≡ posted_in (posted_letters old)
   posted_in-marked =
       posted_in-stays (posted_letters old) (posted_letters new) name
-      (record { bytes = letter.bytes.items; is_pending = false }) (lookup-updates old new name _ updates)
-      (posted_in-map old name ∙ ap (option_map (λ l. l.bytes.items)) was)
+      (record { bytes = rc_slice_items letter.bytes; is_pending = false }) (lookup-updates old new name _ updates)
+      (posted_in-map old name ∙ ap (option_map (λ l. rc_slice_items l.bytes)) was)
 
 -- where there is none, none is pending
 module _ (m : BTreeMap Name Letter) (name : Name) (none : get name_cmp m name ≡ None) where

@@ -4,3 +4,5 @@ pub mod LetterLookups
 pub mod Names
 pub mod Taking
 pub mod Sources
+pub mod Twisting
+mod TwistExamples

@@ -21,7 +21,7 @@ take-on i n xs =
     let i_first : i ≤ i + n = omega arith in
     rw (← take-take i (i + n) xs i_first, ← drop-take i n xs) (take-append-drop i (take (i + n) xs))
 
-take-rest : (i : ℕ) (xs : List ℕ) → take (length xs - i) (drop i xs) ≡ drop i xs
+pub take-rest : (i : ℕ) (xs : List ℕ) → take (length xs - i) (drop i xs) ≡ drop i xs
 take-rest i xs = rw (← length-drop i xs) (take-length (drop i xs))
 
 -- one write after another

@@ -3,11 +3,18 @@ use Rattle.std.specs.Prelude.{◌≡◌, ℕ, ◌+◌, ◌*◌, ◌↔◌, ◌==
 use Rattle.std.specs.Int.{from_le_bytes, w64}
 use Rattle.std.specs.List.{IsDistinct}
 use Rattle.std.specs.Option.{option_map}
+use Rattle.std.specs.Ordering.{nat_cmp, ordering_then}
+use Rattle.std.specs.declared.cmp.Ordering.{Ordering}
 use Rattle.outside.specs.declared.name.Name.{Name}
 
 -- whether two names are one
 abbrev pub same_name : Name → Name → Bool
 same_name a b = (a.phase == b.phase) && (a.from == b.from) && (a.to == b.to)
+
+-- the order of names: by phase, then sender, then receiver
+abbrev pub name_order : Name → Name → Ordering
+name_order a b =
+    ordering_then (nat_cmp a.phase b.phase) (ordering_then (nat_cmp a.from b.from) (nat_cmp a.to b.to))
 
 -- Letters by their names: the bytes of each that is there.
 abbrev pub Letters : Type 0

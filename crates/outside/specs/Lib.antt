@@ -4,6 +4,7 @@ pub mod Writes
 pub mod Reads
 pub mod Letters
 pub mod MailRoom
+pub mod TwistWire
 pub mod PendingLetters
 pub mod MemFiles
 pub mod MemSink

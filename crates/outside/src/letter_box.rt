@@ -1,17 +1,19 @@
 //! The letters that were posted last under their names.
 ghost use Rattle.std.specs.Prelude.{◌≡◌, [], OnOk, OnErr, count_by};
 ghost use Rattle.std.specs.BTreeMap.{IsOrdered, values};
-ghost use Rattle.std.specs.Option.{option_copied, option_map};
+ghost use Rattle.std.specs.Option.{option_map};
+ghost use Rattle.std.specs.Rc.{rc_slice_items};
 ghost use Rattle.outside.specs.Letters.{IsCountOf, with_letter, without_letter};
 
 use crate::Name;
 use std::alloc::{AllocError, Global};
 use std::collections::BTreeMap;
 use std::marker::Model;
+use std::rc::RcSlice;
 
 #[derive(Drop)]
 struct Letter {
-    bytes: Vec<u8>,
+    bytes: RcSlice<u8>,
     is_pending: bool,
 }
 
@@ -23,12 +25,13 @@ pub(crate) struct LetterBox {
 
 impl Model for LetterBox {
     ghost use Rattle.std.specs.Prelude.{List, map};
+    ghost use Rattle.std.specs.Rc.{rc_slice_items};
     ghost use Rattle.outside.specs.declared.name.Name.{Name};
     ghost use Rattle.outside.specs.MailRoom.{PostedLetter};
 
     ghost Value = { List (Name × PostedLetter) };
 
-    ghost view = { λ b. map (λ e. (e.0, record { bytes = e.1.bytes.items; is_pending = e.1.is_pending })) b.letters.entries };
+    ghost view = { λ b. map (λ e. (e.0, record { bytes = rc_slice_items e.1.bytes; is_pending = e.1.is_pending })) b.letters.entries };
 }
 
 impl LetterBox {
@@ -43,9 +46,9 @@ impl LetterBox {
     }
 
     /// Puts a letter in the place of the last one under its name. It is pending.
-    pub(crate) fn put(&mut self, name: Name, bytes: Vec<u8>) -> Result<(), AllocError>
-        ensures pends { OnOk result (pending_in self.new ≡ with_letter (pending_in self.old) name bytes.items) }
-        ensures posts { OnOk result (posted_in self.new ≡ with_letter (posted_in self.old) name bytes.items) }
+    pub(crate) fn put(&mut self, name: Name, bytes: RcSlice<u8>) -> Result<(), AllocError>
+        ensures pends { OnOk result (pending_in self.new ≡ with_letter (pending_in self.old) name (rc_slice_items bytes)) }
+        ensures posts { OnOk result (posted_in self.new ≡ with_letter (posted_in self.old) name (rc_slice_items bytes)) }
         ensures err { OnErr result (self.new ≡ self.old) }
     {
         let letter = Letter {
@@ -57,8 +60,8 @@ impl LetterBox {
     }
 
     /// The bytes that were posted last under the name.
-    pub(crate) fn get(&self, name: Name) -> Option<&[u8]>
-        ensures { option_map (λ b. b.now) result ≡ posted_in self.now name }
+    pub(crate) fn get(&self, name: Name) -> Option<&RcSlice<u8>>
+        ensures { option_map (λ b. rc_slice_items b.now) result ≡ posted_in self.now name }
     {
         match self.letters.get(&name) {
             Some(letter) => Some(&letter.bytes),

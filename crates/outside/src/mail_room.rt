@@ -8,23 +8,26 @@ use crate::plan::Plan;
 use crate::{Name, Wire, WireErr};
 use std::alloc::{AllocError, Global};
 use std::marker::Model;
+use std::rc::RcSlice;
 
-/// The honest wire: it keeps each letter and gives it as it was posted. Its calls fail where this was asked for.
+/// The honest wire: it keeps each letter and gives it as it was posted. Its calls fail where this was asked for. What was
+/// posted and what was given share their bytes.
 #[derive(Drop)]
 pub struct MailRoom {
     alloc: Global,
     letters: LetterBox,
-    given: Vec<(Name, Vec<u8>)>,
+    given: Vec<(Name, RcSlice<u8>)>,
     plan: Plan,
 }
 
 impl Model for MailRoom {
     ghost use Rattle.std.specs.Prelude.{map};
+    ghost use Rattle.std.specs.Rc.{rc_slice_items};
     ghost use Rattle.outside.specs.MailRoom.{MailRoomState};
 
     ghost Value = { MailRoomState };
 
-    ghost view = { λ m. record { letters = m.letters; given = map (λ g. (g.0, g.1.items)) m.given.items; plan = m.plan } };
+    ghost view = { λ m. record { letters = m.letters; given = map (λ g. (g.0, rc_slice_items g.1)) m.given.items; plan = m.plan } };
 }
 
 impl MailRoom {
@@ -67,7 +70,8 @@ impl MailRoom {
             self.plan.count_fault();
             return Err(WireErr::Failed);
         }
-        self.letters.put(name, bytes.to_vec(self.alloc)?)?;
+        let letter = RcSlice::from_slice(self.alloc, bytes)?;
+        self.letters.put(name, letter)?;
         Ok(())
     }
 
@@ -106,10 +110,10 @@ impl MailRoom {
         ensures err_empty { OnErr result (into.new.items ≡ []) }
     {
         let kept = match self.letters.get(name) {
-            Some(bytes) => bytes.to_vec(self.alloc)?,
+            Some(bytes) => bytes.clone()?,
             None => unreachable!(),
         };
-        into.extend_from_slice(&kept)?;
+        into.extend_from_slice(kept.as_slice())?;
         if self.given.push((name, kept)).is_err() {
             into.clear();
             return Err(AllocError);

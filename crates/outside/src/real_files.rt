@@ -9,13 +9,14 @@ use std::marker::Model;
 use std::rt::Files;
 
 // The most bytes that one read gives.
-const PIECE: usize = 16384;
+const READ_LEN: usize = 16_384;
 
-// The file that was opened last.
+// The file that was opened last, and the place that it stands at, where that is known.
 #[derive(Drop)]
 struct Opened<F> {
     name: String,
     file: F,
+    place: Option<u64>,
 }
 
 /// Files of the runtime, read by their paths. Nothing is told of what they hold. Contracts see how often a read was a
@@ -35,15 +36,19 @@ impl<R: Files> Model for RealFiles<R> {
     ghost view = { λ f. f.faults };
 }
 
-// Reads a piece of the file from byte `at` on. What stands in `buf` behind it stays.
-fn read_piece<F: Read + Seek>(file: &mut F, at: u64, buf: &mut [u8]) -> io::Result<usize>
+// Reads a piece of the file from byte `at` on. What stands in `buf` behind it stays. A file that stands there already is
+// not moved, so that a pipe can be read from its beginning on.
+fn read_piece<F: Read + Seek>(opened: &mut Opened<F>, at: u64, buf: &mut [u8]) -> io::Result<usize>
     ensures within { IfOk result (λ n. n ≤ length buf.old) }
     ensures rest_stays { IfOk result (λ n. drop n buf.new ≡ drop n buf.old) }
 {
-    let mut piece = [0u8; PIECE];
-    let most = buf.len().min(PIECE);
-    file.seek(SeekFrom::Start(at))?;
-    let n = file.read(&mut piece[..most])?;
+    let mut piece = [0u8; READ_LEN];
+    let most = buf.len().min(READ_LEN);
+    if opened.place != Some(at) {
+        opened.file.seek(SeekFrom::Start(at))?;
+    }
+    let n = opened.file.read(&mut piece[..most])?;
+    opened.place = at.checked_add(n as u64);
     buf[..n].copy_from_slice(&piece[..n]);
     Ok(n)
 }
@@ -67,7 +72,11 @@ impl<R: Files + AllocGlobal> RealFiles<R> {
             _ => {
                 let file = File::open(&self.rt, name)?;
                 let name = String::from_str(self.rt.alloc(), name)?;
-                Ok(Opened { name, file })
+                Ok(Opened {
+                    name,
+                    file,
+                    place: Some(0),
+                })
             }
         }
     }
@@ -80,7 +89,7 @@ impl<R: Files + AllocGlobal> RealFiles<R> {
     {
         let last = self.opened.take();
         let mut opened = self.open(name, last)?;
-        let n = read_piece(&mut opened.file, at, buf)?;
+        let n = read_piece(&mut opened, at, buf)?;
         self.opened = Some(opened);
         Ok(n)
     }

@@ -2,9 +2,10 @@
 ghost use Rattle.std.specs.Prelude.{◌≡◌, None};
 
 use crate::{
-    Failed, Files, MailRoom, MemFiles, MemSink, Name, RealFiles, RealSink, Sink, Wire, WireErr,
-    write_all,
+    Failed, Files, MailRoom, MemFiles, MemSink, Name, RealFiles, RealSink, Sink, TwistWire, Wire,
+    WireErr, write_all,
 };
+use std::alloc::Global;
 use std::fs;
 use std::test::Fail;
 
@@ -152,5 +153,104 @@ fn bytes_go_on_where_the_sink_took_a_part(rt: HostRuntime) -> Result<(), Fail> {
     write_all(&mut sink, b"tpx").expect(&rt, "room");
     assert!(rt; write_all(&mut sink, b": no").is_err());
     assert_eq!(rt; sink.bytes(), b"tpx: ".as_slice());
+    Ok(())
+}
+
+/// The bytes of the file, read on in pieces of the buffer until its end.
+fn read_on<F: Files>(
+    files: &mut F,
+    name: &str,
+    buf: &mut [u8],
+    into: &mut Vec<u8>,
+) -> Result<(), Fail> {
+    for _ in 0..100 {
+        match read(files, name, into.len() as u64, buf) {
+            Ok(0) => return Ok(()),
+            Ok(n) => into.extend_from_slice(&buf[..n.min(buf.len())])?,
+            Err(Failed) => return Ok(()),
+        }
+    }
+    Ok(())
+}
+
+#[test]
+fn a_file_of_the_system_is_read_beyond_one_piece(rt: HostRuntime) -> Result<(), Fail> {
+    let mut text = Vec::new(rt.alloc());
+    for k in 0..50_000u32 {
+        text.push((k % 251) as u8)?;
+    }
+    fs::write(&rt, "outside-long.txt", text.as_slice())?;
+    let mut files = RealFiles::new(&rt);
+    let mut buf = vec![in rt.alloc(); 0u8; 40_000]?;
+    let mut found = Vec::new(rt.alloc());
+    read_on(&mut files, "outside-long.txt", &mut buf, &mut found)?;
+    assert_eq!(rt; found.len(), text.len());
+    assert!(rt; found.as_slice() == text.as_slice());
+    assert!(rt; matches!(read(&mut files, "outside-long.txt", 251, &mut buf), Ok(n) if n > 2));
+    assert_eq!(rt; &buf[..3], [0u8, 1, 2].as_slice());
+    assert!(rt; matches!(read(&mut files, "outside-long.txt", 253, &mut buf), Ok(n) if n > 2));
+    assert_eq!(rt; &buf[..3], [2u8, 3, 4].as_slice());
+    fs::remove_file(&rt, "outside-long.txt")?;
+    Ok(())
+}
+
+#[test]
+fn files_whose_names_have_one_length_are_told_apart(rt: HostRuntime) -> Result<(), Fail> {
+    fs::write(&rt, "outside-one.txt", "first")?;
+    fs::write(&rt, "outside-two.txt", "other")?;
+    let mut files = RealFiles::new(&rt);
+    let mut buf = [0u8; 3];
+    assert_eq!(rt; read(&mut files, "outside-one.txt", 0, &mut buf), Ok(3));
+    assert_eq!(rt; &buf, b"fir");
+    assert_eq!(rt; read(&mut files, "outside-two.txt", 0, &mut buf), Ok(3));
+    assert_eq!(rt; &buf, b"oth");
+    assert_eq!(rt; read(&mut files, "outside-one.txt", 3, &mut buf), Ok(2));
+    assert_eq!(rt; &buf[..2], b"st".as_slice());
+    fs::remove_file(&rt, "outside-one.txt")?;
+    fs::remove_file(&rt, "outside-two.txt")?;
+    Ok(())
+}
+
+/// A letter of this kind with one word and two numbers: the values 7 and 2^128 - 1, the weights 7 and 1.
+fn letter_of_kind(alloc: Global, kind: u8) -> Result<Vec<u8>, Fail> {
+    let mut letter = Vec::new(alloc);
+    letter.push(kind)?;
+    letter.extend_from_slice(&1u64.to_le_bytes())?;
+    letter.extend_from_slice(&5u64.to_le_bytes())?;
+    for word in [7, 7, u128::MAX, 1] {
+        letter.extend_from_slice(&word.to_le_bytes())?;
+    }
+    Ok(letter)
+}
+
+#[test]
+fn numbers_of_data_letters_are_changed(rt: HostRuntime) -> Result<(), Fail> {
+    let mut wire = TwistWire::new(rt.alloc(), 3);
+    let mut into = Vec::new(rt.alloc());
+    let letter = letter_of_kind(rt.alloc(), 22)?;
+    wire.post(name_of(0), &letter)?;
+    assert_eq!(rt; wire.pending_count(), 1);
+    wire.take(name_of(0), &mut into)?;
+    assert_eq!(rt; wire.pending_count(), 0);
+    assert_eq!(rt; &into[..17], &letter[..17]);
+    let mut numbers = Vec::new(rt.alloc());
+    for word in [10u128, 10, 2, 4] {
+        numbers.extend_from_slice(&word.to_le_bytes())?;
+    }
+    assert_eq!(rt; &into[17..], numbers.as_slice());
+    Ok(())
+}
+
+#[test]
+fn letters_of_other_kinds_are_given_as_posted(rt: HostRuntime) -> Result<(), Fail> {
+    let mut wire = TwistWire::new(rt.alloc(), 3);
+    let mut into = Vec::new(rt.alloc());
+    let rows = letter_of_kind(rt.alloc(), 23)?;
+    pass(&mut wire, name_of(0), &rows, &mut into)?;
+    assert!(rt; into.as_slice() == rows.as_slice());
+    pass(&mut wire, name_of(1), b"", &mut into)?;
+    assert!(rt; into.is_empty());
+    pass(&mut wire, name_of(2), &[22, 1], &mut into)?;
+    assert_eq!(rt; into.as_slice(), [22u8, 1].as_slice());
     Ok(())
 }
