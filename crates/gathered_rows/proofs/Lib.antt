@@ -4,3 +4,4 @@ pub mod Adding
 pub mod Blocks
 pub mod Dealt
 pub mod Gathered
+pub mod Numbers

@@ -1,10 +1,12 @@
 //! Worked files, through the bound, at weighed numbers.
-ghost use Rattle.std.specs.Prelude.{◌≡◌, ◌≢◌, ◌≤◌, ◌<◌, IsTrue, All, unsigned_abs};
+ghost use Rattle.std.specs.Prelude.{◌≢◌, ◌≤◌, ◌<◌, IsTrue, All, unsigned_abs};
 ghost use Rattle.mm_text.specs.Limits.{widest};
+ghost use Rattle.mm_text.specs.Reading.{file_of};
+ghost use Rattle.mm_text.specs.Sound.{IsSound};
 
 use crate::gathered_cells;
 use model_defs::{Cell, FileData, Line, Mirror};
-use scalar_laws::{Scalar, Weighed};
+use scalar_laws::Weighed;
 use std::alloc::{AllocError, Global};
 use std::test::Fail;
 
@@ -31,25 +33,40 @@ fn file(
     })
 }
 
-fn has_places(data: &FileData) -> bool
-    ensures { IsTrue result → All (λ line. (line.row < «data».now.rows) × (line.col < «data».now.cols)) «data».now.lines.items }
+fn has_places(file: &FileData) -> bool
+    ensures { IsTrue result → All (λ line. (line.row < file.now.rows) × (line.col < file.now.cols)) file.now.lines.items }
 {
-    data.lines
+    file.lines
         .iter()
-        .all(|line| line.row < data.rows && line.col < data.cols)
+        .all(|line| line.row < file.rows && line.col < file.cols)
 }
 
-fn has_values(data: &FileData) -> bool
-    ensures { IsTrue result → All (λ line. unsigned_abs line.value ≤ widest) «data».now.lines.items }
+fn has_values(file: &FileData) -> bool
+    ensures { IsTrue result → All (λ line. unsigned_abs line.value ≤ widest) file.now.lines.items }
 {
-    data.lines.iter().all(|line| line.value.unsigned_abs()
+    file.lines.iter().all(|line| line.value.unsigned_abs()
         <= 170141183460469231731687303715884105727)
 }
 
+fn has_no_diagonal(file: &FileData) -> bool
+    ensures { IsTrue result → All (λ line. line.row ≢ line.col) file.now.lines.items }
+{
+    file.lines.iter().all(|line| line.row != line.col)
+}
+
+fn is_sound(file: &FileData) -> bool
+    ensures { IsTrue result → IsSound (file_of file.now) }
+{
+    file.rows == file.cols
+        && has_places(file)
+        && has_values(file)
+        && (file.mirror != Mirror::Negated || has_no_diagonal(file))
+}
+
 /// The cells by way of two ranks; None where the file is not sound.
-fn by_two<S: Scalar>(alloc: Global, data: &FileData) -> Result<Option<Vec<Cell<S>>>, AllocError> {
-    if data.rows == data.cols && data.rows <= 1000000 && has_places(data) && has_values(data) {
-        return Ok(Some(gathered_cells(alloc, 2, data)?));
+fn by_two(alloc: Global, file: &FileData) -> Result<Option<Vec<Cell<Weighed>>>, AllocError> {
+    if file.rows <= 1000000 && is_sound(file) {
+        return Ok(Some(gathered_cells(alloc, 2, file)?));
     }
     Ok(None)
 }
@@ -64,13 +81,13 @@ fn cell(row: u64, col: u64, value: i128, weight: u128) -> Cell<Weighed> {
 
 #[test]
 fn entries_come_in_order(rt: HostRuntime) -> Result<(), Fail> {
-    let data = file(
+    let found = file(
         rt.alloc(),
         3,
         Mirror::Plain,
         &[(2, 0, -1), (0, 2, 5), (1, 1, 3), (0, 0, 2)],
     )?;
-    let cells = by_two::<Weighed>(rt.alloc(), &data)?.ok_or("not sound")?;
+    let cells = by_two(rt.alloc(), &found)?.ok_or("not sound")?;
     let want = [
         cell(0, 0, 2, 2),
         cell(0, 2, 5, 5),
@@ -83,13 +100,13 @@ fn entries_come_in_order(rt: HostRuntime) -> Result<(), Fail> {
 
 #[test]
 fn one_place_is_added(rt: HostRuntime) -> Result<(), Fail> {
-    let data = file(
+    let found = file(
         rt.alloc(),
         2,
         Mirror::Plain,
         &[(1, 0, 4), (0, 1, 2), (1, 0, -3), (1, 0, -1)],
     )?;
-    let cells = by_two::<Weighed>(rt.alloc(), &data)?.ok_or("not sound")?;
+    let cells = by_two(rt.alloc(), &found)?.ok_or("not sound")?;
     let want = [cell(0, 1, 2, 2), cell(1, 0, 0, 8)];
     assert!(rt; cells.as_slice() == want.as_slice());
     Ok(())
@@ -97,16 +114,16 @@ fn one_place_is_added(rt: HostRuntime) -> Result<(), Fail> {
 
 #[test]
 fn no_entries_give_no_cells(rt: HostRuntime) -> Result<(), Fail> {
-    let data = file(rt.alloc(), 3, Mirror::Plain, &[])?;
-    let cells = by_two::<Weighed>(rt.alloc(), &data)?.ok_or("not sound")?;
+    let found = file(rt.alloc(), 3, Mirror::Plain, &[])?;
+    let cells = by_two(rt.alloc(), &found)?.ok_or("not sound")?;
     assert_eq!(rt; cells.len(), 0);
     Ok(())
 }
 
 #[test]
 fn a_symmetric_entry_has_two_places(rt: HostRuntime) -> Result<(), Fail> {
-    let data = file(rt.alloc(), 2, Mirror::Same, &[(1, 0, 4), (1, 1, 7)])?;
-    let cells = by_two::<Weighed>(rt.alloc(), &data)?.ok_or("not sound")?;
+    let found = file(rt.alloc(), 2, Mirror::Same, &[(1, 0, 4), (1, 1, 7)])?;
+    let cells = by_two(rt.alloc(), &found)?.ok_or("not sound")?;
     let want = [cell(0, 1, 4, 4), cell(1, 0, 4, 4), cell(1, 1, 7, 7)];
     assert!(rt; cells.as_slice() == want.as_slice());
     Ok(())
@@ -114,8 +131,8 @@ fn a_symmetric_entry_has_two_places(rt: HostRuntime) -> Result<(), Fail> {
 
 #[test]
 fn a_skew_symmetric_entry_is_negated(rt: HostRuntime) -> Result<(), Fail> {
-    let data = file(rt.alloc(), 2, Mirror::Negated, &[(1, 0, 4)])?;
-    let cells = by_two::<Weighed>(rt.alloc(), &data)?.ok_or("not sound")?;
+    let found = file(rt.alloc(), 2, Mirror::Negated, &[(1, 0, 4)])?;
+    let cells = by_two(rt.alloc(), &found)?.ok_or("not sound")?;
     let want = [cell(0, 1, -4, 4), cell(1, 0, 4, 4)];
     assert!(rt; cells.as_slice() == want.as_slice());
     Ok(())
@@ -133,13 +150,13 @@ fn many_entries(rt: HostRuntime) -> Result<(), Fail> {
             value: place as i128,
         })?;
     }
-    let data = FileData {
+    let found = FileData {
         rows: 400,
         cols: 400,
         mirror: Mirror::Plain,
         lines,
     };
-    let cells = by_two::<Weighed>(rt.alloc(), &data)?.ok_or("not sound")?;
+    let cells = by_two(rt.alloc(), &found)?.ok_or("not sound")?;
     assert_eq!(rt; cells.len(), 100000);
     for (place, found) in cells.iter().enumerate() {
         let twice = 2 * place as u64;

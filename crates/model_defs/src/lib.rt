@@ -5,5 +5,7 @@
 //! `mm_text`; `gathered_rows` and `tpx` stand on it.
 #![tactic(auto)]
 
+pub mod laws;
+
 pub use mm_text::{FileData, Form, Line, Mirror, Shown};
 pub use tables::Cell;

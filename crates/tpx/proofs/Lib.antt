@@ -1,7 +1,7 @@
+pub mod Sources
 pub mod Pieces
-pub mod Ends
 pub mod PrintedCells
-pub mod Statuses
-pub mod Inputs
-pub mod FileRead
+pub mod Reading
+pub mod Showing
+pub mod Ended
 pub mod Examples

@@ -1,7 +1,8 @@
 pub mod Words
 pub mod Asked
-pub mod Input
-pub mod Messages
+pub mod Sources
 pub mod Endings
-pub mod Causes
-pub mod ReadFile
+pub mod Messages
+pub mod Faults
+pub mod Streams
+pub mod Steps

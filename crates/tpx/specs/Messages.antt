@@ -4,6 +4,8 @@ use Rattle.std.specs.Borrow.{Bor}
 use Rattle.std.specs.List.{flat_map}
 use Rattle.mm_text.specs.declared.fault.MmFault.{MmFault}
 use Rattle.mm_text.specs.declared.fault.MmFault.TheVariants.{ReadFault, NoBanner, BadBanner, UnsupportedField, UnsupportedSymmetry, WrongForm, BadSize, BadLine, OutOfRange, NotSquare, SkewDiagonal, TooFew, Extra, NumberTooWide, TooManyEntries, TooLong, NoMem}
+use Rattle.tpx.specs.declared.fault.TextFault.{TextFault}
+use Rattle.tpx.specs.declared.fault.TextFault.TheVariants.{Matrix}
 
 -- the name of a fault
 abbrev pub fault_name : MmFault → List ℕ
@@ -33,15 +35,25 @@ fault_number (SkewDiagonal line) = Some line
 fault_number (TooFew have) = Some have
 fault_number (Extra line) = Some line
 fault_number (NumberTooWide line) = Some line
-fault_number _ = None
+fault_number ReadFault = None
+fault_number NoBanner = None
+fault_number BadBanner = None
+fault_number UnsupportedField = None
+fault_number UnsupportedSymmetry = None
+fault_number WrongForm = None
+fault_number BadSize = None
+fault_number NotSquare = None
+fault_number TooManyEntries = None
+fault_number TooLong = None
+fault_number NoMem = None
 
 abbrev pub after_space : Option ℕ → List ℕ
 after_space None = []
 after_space (Some n) = 32 ∷ decimal n
 
 -- a fault as a message names it: its name, and after a space its number
-abbrev pub fault_text : MmFault → List ℕ
-fault_text fault = fault_name fault ++ after_space (fault_number fault)
+abbrev pub fault_text : TextFault → List ℕ
+fault_text (Matrix fault) = fault_name fault ++ after_space (fault_number fault)
 
 -- texts, one after the other
 abbrev pub joined : List (Bor (List ℕ)) → List ℕ
@@ -67,7 +79,7 @@ unread_message file = message_line (codes "cannot read " ++ file)
 abbrev pub unwritten_message : List ℕ
 unwritten_message = message_line (codes "cannot write")
 
-abbrev pub refused_message : List ℕ → MmFault → List ℕ
+abbrev pub refused_message : List ℕ → TextFault → List ℕ
 refused_message file fault = message_line (file ++ codes ": " ++ fault_text fault)
 
 abbrev pub overflow_message : List ℕ

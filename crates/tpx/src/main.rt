@@ -1,25 +1,30 @@
 //! `tpx`: distributed sparse linear algebra over whole numbers, on simulated ranks.
 //!
-//! The program is one call, `top`, over files, a wire between ranks, and two sinks. `main` makes those of the system;
-//! the tests make those in memory. What `top` does is said by its contract: the words of a command and what they ask
-//! for (`specs/Words`, `specs/Input`), what is written (`show_text` of `model_defs`), and the messages
-//! (`specs/Messages`). It stands on all the other crates, and nothing stands on it.
+//! The program is one call, `top`, over files, a wire between ranks, and two sinks. `run_on_system` calls it over those of
+//! the system, the tests over those in memory. What `top` does is said by its contract: the words of a command
+//! (`specs/Words`), how it ends over a source of texts and with which statuses (`specs/Endings`), what the two sinks take
+//! (`specs/Streams`), and the messages (`specs/Messages`). Nothing stands on it.
+//!
+//! ```
+//! let status = top(alloc, &words, &mut files, &mut wire, &mut out, &mut err);
+//! ```
 #![tactic(auto)]
 
-mod ending;
+mod fault;
 mod messages;
 mod show;
 mod shown;
+mod system;
 #[cfg(test)]
 mod tests;
 mod top_call;
 mod words;
 
-use outside::{MailRoom, RealFiles, RealSink};
+use outside::{RealFiles, RealSink};
 use std::alloc::Global;
 use std::process::ExitCode;
 use std::{env, io};
-use top_call::top;
+use system::run_on_system;
 
 /// The words after the program's name.
 fn arguments(rt: &HostRuntime) -> io::Result<Vec<String>> {
@@ -39,15 +44,7 @@ fn main(rt: HostRuntime) -> ExitCode {
         Err(_) => return ExitCode::from(10),
     };
     let mut files = RealFiles::new(&rt);
-    let mut wire = MailRoom::new(rt.alloc());
     let mut out = RealSink::new(rt.stdout());
     let mut err = RealSink::new(rt.stderr());
-    ExitCode::from(top(
-        rt.alloc(),
-        &words,
-        &mut files,
-        &mut wire,
-        &mut out,
-        &mut err,
-    ))
+    run_on_system(rt.alloc(), &words, &mut files, &mut out, &mut err)
 }

@@ -1,16 +1,14 @@
 //! The messages on standard error.
-ghost use Rattle.std.specs.Prelude.{◌≡◌, ◌∷◌, ◌++◌, List, ℕ, IsErr, OnErr, OnOk, codes, decimal};
-ghost use Rattle.outside.specs.Bytes.{with_bytes};
-ghost use Rattle.outside.specs.Faults.{Rose};
-ghost use Rattle.outside.specs.Writes.{TakesPrefix};
+ghost use Rattle.std.specs.Prelude.{◌≡◌, ◌≤◌, IfErr, OnOk};
+ghost use Rattle.outside.specs.Writes.{Writes};
+ghost use Rattle.tpx.specs.Faults.{message_of, result_status};
 ghost use Rattle.tpx.specs.Messages.{fault_line, fault_name, fault_number, joined, refused_message, unread_message};
-ghost use Rattle.tpx.specs.Causes.{Says};
-ghost use Rattle.tpx.specs.Endings.{message_of, status_of};
+ghost use Rattle.tpx.specs.Streams.{Says};
 
-use crate::ending::Ending;
+use crate::fault::{Fault, TextFault};
 use itoa::Buffer;
-use mm_text::{MmFault, SinkFault};
-use outside::{Sink, write_all};
+use mm_text::MmFault;
+use outside::{Sink, SinkFault, write_all};
 
 /// The name of a fault.
 fn name_of(fault: &MmFault) -> &'static str
@@ -48,16 +46,23 @@ fn number_of(fault: &MmFault) -> Option<u32>
         | MmFault::Extra { line }
         | MmFault::NumberTooWide { line } => Some(*line),
         MmFault::TooFew { have } => Some(*have),
-        _ => None,
+        MmFault::ReadFault
+        | MmFault::NoBanner
+        | MmFault::BadBanner
+        | MmFault::UnsupportedField
+        | MmFault::UnsupportedSymmetry
+        | MmFault::WrongForm
+        | MmFault::BadSize
+        | MmFault::NotSquare
+        | MmFault::TooManyEntries
+        | MmFault::TooLong
+        | MmFault::NoMem => None,
     }
 }
 
 /// Writes these texts, one after the other.
 fn write_pieces<E: Sink>(err: &mut E, pieces: &[&str]) -> Result<(), SinkFault>
-    ensures taken { OnOk result (E.told err.new ≡ with_bytes (E.told err.old) (joined pieces.now)) }
-    ensures no_fault { OnOk result (E.faults err.new ≡ E.faults err.old) }
-    ensures fault { IsErr result → Rose (E.faults err.old) (E.faults err.new) }
-    ensures prefix { OnErr result (TakesPrefix (E.told err.old) (E.told err.new) (joined pieces.now)) }
+    ensures { Writes E.told E.faults err.old err.new (joined pieces.now) result }
 {
     for piece in pieces {
         if let Err(fault) = write_all(err, piece.as_bytes()) {
@@ -75,23 +80,17 @@ fn write_fault<'a, E: Sink>(
     space: &'a str,
     number: &'a str,
 ) -> Result<(), SinkFault>
-    ensures taken { let text = fault_line file.now name.now space.now number.now in
-        OnOk result (E.told err.new ≡ with_bytes (E.told err.old) text) }
-    ensures no_fault { OnOk result (E.faults err.new ≡ E.faults err.old) }
-    ensures fault { IsErr result → Rose (E.faults err.old) (E.faults err.new) }
-    ensures prefix { let text = fault_line file.now name.now space.now number.now in
-        OnErr result (TakesPrefix (E.told err.old) (E.told err.new) text) }
+    ensures { let text = fault_line file.now name.now space.now number.now in
+        Writes E.told E.faults err.old err.new text result }
 {
     write_pieces(err, &["tpx: ", file, ": ", name, space, number, "\n"])
 }
 
 /// Writes the message that a file is refused.
-fn write_refusal<E: Sink>(err: &mut E, file: &str, fault: &MmFault) -> Result<(), SinkFault>
-    ensures taken { OnOk result (E.told err.new ≡ with_bytes (E.told err.old) (refused_message file.now fault.now)) }
-    ensures no_fault { OnOk result (E.faults err.new ≡ E.faults err.old) }
-    ensures fault { IsErr result → Rose (E.faults err.old) (E.faults err.new) }
-    ensures prefix { OnErr result (TakesPrefix (E.told err.old) (E.told err.new) (refused_message file.now fault.now)) }
+fn write_refusal<E: Sink>(err: &mut E, file: &str, fault: &TextFault) -> Result<(), SinkFault>
+    ensures { Writes E.told E.faults err.old err.new (refused_message file.now fault.now) result }
 {
+    let TextFault::Matrix(fault) = fault;
     let name = name_of(fault);
     match number_of(fault) {
         None => write_fault(err, file, name, "", ""),
@@ -104,44 +103,41 @@ fn write_refusal<E: Sink>(err: &mut E, file: &str, fault: &MmFault) -> Result<()
 
 /// Writes that a file cannot be read.
 fn write_unread<'a, E: Sink>(err: &mut E, file: &'a str) -> Result<(), SinkFault>
-    ensures taken { OnOk result (E.told err.new ≡ with_bytes (E.told err.old) (unread_message file.now)) }
-    ensures no_fault { OnOk result (E.faults err.new ≡ E.faults err.old) }
-    ensures fault { IsErr result → Rose (E.faults err.old) (E.faults err.new) }
-    ensures prefix { OnErr result (TakesPrefix (E.told err.old) (E.told err.new) (unread_message file.now)) }
+    ensures { Writes E.told E.faults err.old err.new (unread_message file.now) result }
 {
     write_pieces(err, &["tpx: cannot read ", file, "\n"])
 }
 
-/// Writes the message of an ending other than that of a result that was written.
-fn write_message<E: Sink>(err: &mut E, file: &str, ending: &Ending) -> Result<(), SinkFault>
-    ensures taken { OnOk result (E.told err.new ≡ with_bytes (E.told err.old) (message_of file.now ending.now)) }
-    ensures no_fault { OnOk result (E.faults err.new ≡ E.faults err.old) }
-    ensures fault { IsErr result → Rose (E.faults err.old) (E.faults err.new) }
-    ensures prefix { OnErr result (TakesPrefix (E.told err.old) (E.told err.new) (message_of file.now ending.now)) }
+/// Writes the message of a command that ends without its result.
+fn write_message<'a, E: Sink>(err: &mut E, fault: &Fault<'a>) -> Result<(), SinkFault>
+    ensures { Writes E.told E.faults err.old err.new (message_of fault.now) result }
 {
-    match ending {
-        Ending::Written => write_all(err, b""),
-        Ending::Memory => write_all(err, b"tpx: out of memory\n"),
-        Ending::NoCommand => write_all(
+    match fault {
+        Fault::Memory => write_all(err, b"tpx: out of memory\n"),
+        Fault::NoCommand => write_all(
             err,
             b"tpx: usage: tpx show RANKS FILE; tpx run JOB [--schedule FILE] [--order fifo, lifo or seed] [--seed N] [--traffic]; tpx gen N\n",
         ),
-        Ending::Unread => write_unread(err, file),
-        Ending::Unwritten => write_all(err, b"tpx: cannot write\n"),
-        Ending::Refused(fault) => write_refusal(err, file, fault),
-        Ending::Overflow => write_all(err, b"tpx: overflow\n"),
+        Fault::Unread { file } => write_unread(err, file),
+        Fault::Unwritten => write_all(err, b"tpx: cannot write\n"),
+        Fault::Refused { file, fault } => write_refusal(err, file, fault),
+        Fault::Overflow => write_all(err, b"tpx: overflow\n"),
     }
 }
 
-/// Writes the message of an ending, and answers its status. A failing sink changes no status.
-pub fn report<E: Sink>(err: &mut E, file: &str, ending: &Ending) -> u8
-    ensures status { result ≡ status_of ending.now }
-    ensures says { Says E.told E.faults err.old err.new (message_of file.now ending.now) }
-    ensures quiet { ending.now ≡ Ending.Written → err.new ≡ err.old }
+/// Answers the status of a command, and writes the message where it ended without its result. A failing sink changes no
+/// status.
+pub fn report<'a, E: Sink>(err: &mut E, ended: &Result<(), Fault<'a>>) -> u8
+    ensures status { result ≡ result_status ended.now }
+    ensures says { IfErr ended.now (λ fault. Says E.told E.faults err.old err.new (message_of fault)) }
+    ensures quiet { OnOk ended.now (err.new ≡ err.old) }
+    ensures never_falls { E.faults err.old ≤ E.faults err.new }
 {
-    if let Ending::Written = ending {
-        return 0;
+    match ended {
+        Ok(()) => 0,
+        Err(fault) => {
+            let _ = write_message(err, fault);
+            fault.status()
+        }
     }
-    let _ = write_message(err, file, ending);
-    ending.status()
 }

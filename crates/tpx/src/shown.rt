@@ -2,9 +2,9 @@
 ghost use Rattle.std.specs.Prelude.{◌≡◌, true, false, map, IfOk, IfErr, OnOk};
 ghost use Rattle.std.specs.List.{list_any};
 ghost use Rattle.model_defs.specs.ShowText.{shown_cell};
-ghost use Rattle.tpx.specs.Endings.{IsOverflowOrMemory};
+ghost use Rattle.tpx.specs.Steps.{StopsShowing};
 
-use crate::ending::Ending;
+use crate::fault::Fault;
 use mm_text::Shown;
 use scalar_laws::Scalar;
 use std::alloc::Global;
@@ -12,18 +12,16 @@ use tables::Cell;
 
 /// The cells with the integers that they show, or `Overflow` exactly where a number is over. Only `Memory` may come
 /// beside.
-pub fn shown_cells<S: Scalar>(alloc: Global, cells: &[Cell<S>]) -> Result<Vec<Shown>, Ending>
+pub fn shown_cells<'a, S: Scalar>(alloc: Global, cells: &[Cell<S>]) -> Result<Vec<Shown>, Fault<'a>>
     ensures shown { IfOk result (λ v. v.items ≡ map (shown_cell S.conversions) cells.now) }
     ensures none_over { OnOk result (list_any (λ c. S.conversions.is_over c.value) cells.now ≡ false) }
-    ensures over { IfErr result (λ ending. ending ≡ Ending.Overflow
-        → list_any (λ c. S.conversions.is_over c.value) cells.now ≡ true) }
-    ensures faults { IfErr result IsOverflowOrMemory }
+    ensures fault { IfErr result (StopsShowing (list_any (λ c. S.conversions.is_over c.value) cells.now)) }
 {
     let mut shown = Vec::with_capacity(alloc, cells.len())?;
     for cell in cells {
         let value = match cell.value.shown() {
             Some(value) => value,
-            None => return Err(Ending::Overflow),
+            None => return Err(Fault::Overflow),
         };
         shown.push(Shown {
             row: cell.row,

@@ -1,5 +1,5 @@
 //! Whole commands, over files and sinks in memory.
-use crate::top;
+use crate::top_call::top;
 use outside::{MailRoom, MemFiles, MemSink};
 use std::alloc::{AllocError, Global};
 use std::process::Abort;

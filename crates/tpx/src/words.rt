@@ -1,7 +1,7 @@
 //! The words of the command line.
 ghost use Rattle.std.specs.Prelude.{◌≡◌, ◌≤◌, IfSome};
 ghost use Rattle.std.specs.Option.{option_map};
-ghost use Rattle.tpx.specs.Input.{command_of};
+ghost use Rattle.tpx.specs.Endings.{command_of};
 ghost use Rattle.tpx.specs.Words.{ranks_of};
 
 /// The words of `show`: a number of ranks, from 1 to 32, and the name of a file.

@@ -1,36 +1,50 @@
-use Rattle.std.proofs.Common.{ap, subst, ◌∙◌}
-use Rattle.outside.specs.Bytes.{with_bytes}
-use Rattle.mm_text.specs.Reading.{File}
-use Rattle.outside.specs.Writes.{TakesPrefix}
-use Rattle.tpx.specs.Endings.{text_of}
-use Rattle.tpx.proofs.Ends.{ends_reading, unfailed_reading, unwritten_reading, ends_between, ends_writing, accepted-is, unwritten_between}
+use Rattle.std.proofs.lemmas.Result.{err_from_is_err_and}
+use Rattle.mm_text.specs.Reading.{file_of}
+use Rattle.tpx.proofs.Reading.{Reads-same}
+use Rattle.tpx.proofs.Showing.{gives-reading, gives-showing, gives-writing, showing-read, writing-read, touches-writing, rose-reading, rose-showing, rose-writing}
 use Rattle.tpx.proofs.show.show.Goals as goal
 
-pub returns-in-Err-clause-ends : goal.returns-in-Err-clause-ends
-returns-in-Err-clause-ends g c = ends_reading _ _ c.in-Err.ensures.ends
+pub returns-in_err-file-clause-gives : goal.returns-in_err-file-clause-gives
+returns-in_err-file-clause-gives g c =
+    let p = err_from_is_err_and c.from_residual.result c.from_residual.ensures.1 in
+    rw (p.1, p.2) (gives-reading (g.F.Files.told c.args.files.now) g.O.Sink.told c.args.name.now c.args.out.now _ c.in_err-file.ensures.fault)
 
-pub returns-in-Err-clause-written : goal.returns-in-Err-clause-written
-returns-in-Err-clause-written g c = λ w. unwritten_reading _ _ _ c.in-Err.ensures.ends w
+pub returns-in_err-file-clause-unread : goal.returns-in_err-file-clause-unread
+returns-in_err-file-clause-unread g c =
+    let p = err_from_is_err_and c.from_residual.result c.from_residual.ensures.1 in
+    rw (p.1, p.2)
+    (rose-reading (g.F.Files.faults c.args.files.now) (g.F.Files.faults c.read_shown.new.files) (g.F.Files.told c.args.files.now) c.args.name.now _ c.in_err-file.ensures.fault
+    c.in_err-file.ensures.reads.fault)
 
-pub returns-in-Err-clause-unwritten : goal.returns-in-Err-clause-unwritten
-returns-in-Err-clause-unwritten g c = λ w. unfailed_reading _ _ _ c.in-Err.ensures.ends w
+pub returns-in_err-cells-clause-gives : goal.returns-in_err-cells-clause-gives
+returns-in_err-cells-clause-gives g c =
+    let p = err_from_is_err_and c.from_residual-in_err-cells.result c.from_residual-in_err-cells.ensures.1 in
+    rw (p.1, p.2)
+    (gives-showing (g.F.Files.told c.args.files.now) g.O.Sink.told c.args.name.now c.args.out.now (file_of c.in_ok-file.file) _ c.in_ok-file.ensures.accepted c.in_err-cells.ensures.fault)
 
-pub returns-in-Err-clause-no_read_fault : goal.returns-in-Err-clause-no_read_fault
-returns-in-Err-clause-no_read_fault g c = c.in-Err.ensures.no_fault_refused
+pub returns-in_err-cells-clause-reads : goal.returns-in_err-cells-clause-reads
+returns-in_err-cells-clause-reads g c =
+    let p = err_from_is_err_and c.from_residual-in_err-cells.result c.from_residual-in_err-cells.ensures.1 in
+    rw (p.1, p.2)
+    (Reads-same _ _ _ _ _ _ _ (λ u. absurd (showing-read (Unit {0}) _ _ c.in_err-cells.ensures.fault u)) (λ h. absurd h) c.in_ok-file.ensures.reads)
 
-pub returns-in-Ok-matrix_cells-clause-ends : goal.returns-in-Ok-matrix_cells-clause-ends
-returns-in-Ok-matrix_cells-clause-ends g c = ends_writing _ _ _ c.in-Ok.ensures.accepted c.write_matrix.ensures.ends c.in-Ok-matrix_cells.ensures.none_over
+pub returns-in_err-cells-clause-unread : goal.returns-in_err-cells-clause-unread
+returns-in_err-cells-clause-unread g c =
+    let p = err_from_is_err_and c.from_residual-in_err-cells.result c.from_residual-in_err-cells.ensures.1 in
+    rw (p.1, p.2)
+    (rose-showing (g.F.Files.faults c.args.files.now) (g.F.Files.faults c.read_shown.new.files) _ _ c.in_err-cells.ensures.fault)
 
-pub returns-in-Ok-matrix_cells-clause-written : goal.returns-in-Ok-matrix_cells-clause-written
-returns-in-Ok-matrix_cells-clause-written g c = λ w name file e.
-    c.write_matrix.ensures.written w ∙ ap (λ f. with_bytes (g.O.Sink.told c.args.out.now) (text_of f)) (accepted-is _ _ file name c.in-Ok.ensures.accepted e)
+pub returns-clause-gives : goal.returns-clause-gives
+returns-clause-gives g c =
+    gives-writing (g.F.Files.told c.args.files.now) g.O.Sink.told c.args.name.now g.O.Sink.faults c.args.out.now c.write_matrix.new.out (file_of c.in_ok-file.file) c.write_matrix.result
+    c.in_ok-file.ensures.accepted c.in_ok-cells.ensures.none_over c.write_matrix.ensures.writes c.write_matrix.ensures.fault
 
-pub returns-in-Ok-matrix_cells-clause-prefix : goal.returns-in-Ok-matrix_cells-clause-prefix
-returns-in-Ok-matrix_cells-clause-prefix g c = λ w name file e.
-    subst (λ (f : File). TakesPrefix (g.O.Sink.told c.args.out.now) (g.O.Sink.told c.write_matrix.new.out) (text_of f)) (accepted-is _ _ file name c.in-Ok.ensures.accepted e) (c.write_matrix.ensures.prefix w)
+pub returns-clause-reads : goal.returns-clause-reads
+returns-clause-reads g c =
+    Reads-same _ _ _ _ _ _ _ (λ u. absurd (writing-read c.write_matrix.result c.write_matrix.ensures.fault u)) (λ h. absurd h) c.in_ok-file.ensures.reads
 
-pub returns-clause-ends : goal.returns-clause-ends
-returns-clause-ends g c = ends_between _ _ _ c.in-Ok.ensures.accepted c.in-Err-matrix_cells.ensures.ends (λ e. c.in-Err-matrix_cells.ensures.over e)
+pub returns-clause-untouched : goal.returns-clause-untouched
+returns-clause-untouched g c = touches-writing c.write_matrix.result _ c.write_matrix.ensures.fault
 
-pub returns-clause-written : goal.returns-clause-written
-returns-clause-written g c = λ w. unwritten_between _ _ c.in-Err-matrix_cells.ensures.ends w
+pub returns-clause-unread : goal.returns-clause-unread
+returns-clause-unread g c = rose-writing (g.F.Files.faults c.args.files.now) (g.F.Files.faults c.read_shown.new.files) c.write_matrix.result c.write_matrix.ensures.fault

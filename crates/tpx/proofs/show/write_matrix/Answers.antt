@@ -7,8 +7,8 @@ use Rattle.tpx.proofs.show.write_matrix.Goals as goal
 
 pub write_coordinate-requires-clause-within : goal.write_coordinate-requires-clause-within
 write_coordinate-requires-clause-within g c =
-    subst (λ (cells : List Shown). AreWithin c.args.file.now.rows c.args.file.now.cols cells) (sym c.requires.shown) (printed_within weighed_conversions c.args.file.now.rows c.args.file.now.cols _)
+    subst (λ (cells : List Shown). AreWithin c.args.file.now.rows c.args.file.now.cols cells) (sym c.requires) (printed_within weighed_conversions c.args.file.now.rows c.args.file.now.cols _)
 
 pub write_coordinate-requires-clause-in_order : goal.write_coordinate-requires-clause-in_order
 write_coordinate-requires-clause-in_order g c =
-    subst (λ (cells : List Shown). AreInOrder cells) (sym c.requires.shown) (printed_in_order weighed_conversions c.args.file.now.rows c.args.file.now.cols _)
+    subst (λ (cells : List Shown). AreInOrder cells) (sym c.requires) (printed_in_order weighed_conversions c.args.file.now.rows c.args.file.now.cols _)

@@ -1,92 +1,55 @@
-use Rattle.std.proofs.Common.{◌≡◌, ℕ, List, None, Some, sym, ap, ◌∙◌, subst}
-use Rattle.tpx.specs.declared.ending.Ending.{Ending}
-use Rattle.tpx.specs.declared.ending.Ending.TheVariants.{NoCommand}
-use Rattle.tpx.specs.Causes.{MayBeRefused, MayBeShown, MayOverflow, Says}
-use Rattle.tpx.specs.Endings.{EndsBy, message_of}
-use Rattle.tpx.specs.Input.{Input, told_input}
-use Rattle.tpx.specs.Messages.{unread_message, refused_message}
-use Rattle.tpx.proofs.Inputs.{at_command, nothing_shown, nothing_refused, told-command, told-name, refused-fault, unread-ending, written-ending, unwritten-ending, same_command, refused-ending, told-text}
-use Rattle.tpx.proofs.Statuses.{refused-only, overflow-only, shown-only, overflow-status, complete-status}
+use Rattle.std.proofs.Common.{List, ℕ}
+use Rattle.tpx.specs.Endings.{ending_of, reads_of}
+use Rattle.tpx.specs.Streams.{Says}
+use Rattle.tpx.proofs.Sources.{SomeSource-weaker}
+use Rattle.tpx.proofs.Ended.{ends, written, prefix, refusal, unread, usage, untouched, no_read, failed, unfailed, quiet, memory, no_words, unwritten, over}
 use Rattle.tpx.proofs.top_call.top.Goals as goal
 
-pub returns-in_default-clause-overflow : goal.returns-in_default-clause-overflow
-returns-in_default-clause-overflow g c = λ name file e o. nothing_shown _ _ name file _ c.in_default.ensures.asked e
-
-pub returns-in_default-clause-complete : goal.returns-in_default-clause-complete
-returns-in_default-clause-complete g c = λ name file e o. nothing_shown _ _ name file _ c.in_default.ensures.asked e
-
-pub returns-in_default-clause-written : goal.returns-in_default-clause-written
-returns-in_default-clause-written g c = λ s name file e. nothing_shown _ _ name file _ c.in_default.ensures.asked e
-
-pub returns-in_default-clause-refused_message : goal.returns-in_default-clause-refused_message
-returns-in_default-clause-refused_message g c = λ s name fault e. nothing_refused _ _ name fault _ c.in_default.ensures.asked e
+pub returns-clause-ends : goal.returns-clause-ends
+returns-clause-ends g c = SomeSource-weaker _ _ _ (λ source h. ends g.O.Sink.told c.args.out.now c.run_command-ended.new.out (reads_of c.args.words.now source) (ending_of c.args.words.now source) c.run_command-ended.result _ c.report.ensures.status h) c.run_command-ended.ensures.gives
 
 pub returns-clause-usage : goal.returns-clause-usage
-returns-clause-usage g c = (
-  λ two. absurd (told-command c.in-Some.command.file.now (g.F.Files.told c.args.files.now) c.show-ending.result _ c.report-2.ensures.status c.show-ending.ensures.ends two),
-  λ none. let h : None ≡ Some _ = sym none ∙ sym c.in-Some.ensures.asked in absurd (cc),
-)
-
-pub returns-clause-refused_only : goal.returns-clause-refused_only
-returns-clause-refused_only g c = λ five.
-    subst MayBeRefused (sym (at_command _ _ _ _ c.in-Some.ensures.asked)) (refused-only _ c.show-ending.result _ c.report-2.ensures.status c.show-ending.ensures.ends five)
-
-pub returns-clause-overflow_only : goal.returns-clause-overflow_only
-returns-clause-overflow_only g c = λ seven.
-    subst MayOverflow (sym (at_command _ _ _ _ c.in-Some.ensures.asked)) (overflow-only _ c.show-ending.result _ c.report-2.ensures.status c.show-ending.ensures.ends seven)
-
-pub returns-clause-shown_only : goal.returns-clause-shown_only
-returns-clause-shown_only g c = λ either.
-    subst MayBeShown (sym (at_command _ _ _ _ c.in-Some.ensures.asked)) (shown-only _ c.show-ending.result _ c.report-2.ensures.status c.show-ending.ensures.ends either)
-
-pub returns-clause-overflow : goal.returns-clause-overflow
-returns-clause-overflow g c = λ name file e o.
-    overflow-status name file c.show-ending.result _ c.report-2.ensures.status
-    (subst (λ (i : Input). EndsBy i c.show-ending.result) (sym (at_command _ _ _ _ c.in-Some.ensures.asked) ∙ e) c.show-ending.ensures.ends) o
-
-pub returns-clause-complete : goal.returns-clause-complete
-returns-clause-complete g c = λ name file e o.
-    complete-status name file c.show-ending.result _ c.report-2.ensures.status
-    (subst (λ (i : Input). EndsBy i c.show-ending.result) (sym (at_command _ _ _ _ c.in-Some.ensures.asked) ∙ e) c.show-ending.ensures.ends) o
+returns-clause-usage g c = usage c.run_command-ended.result _ _ c.report.ensures.status c.run_command-ended.ensures.usage
 
 pub returns-clause-written : goal.returns-clause-written
-returns-clause-written g c = λ s name file e.
-    c.show-ending.ensures.written (written-ending _ _ c.report-2.ensures.status s) name file (sym (at_command _ _ _ _ c.in-Some.ensures.asked) ∙ e)
+returns-clause-written g c = λ zero. SomeSource-weaker _ _ _ (λ source h. written g.O.Sink.told c.args.out.now c.run_command-ended.new.out (reads_of c.args.words.now source) (ending_of c.args.words.now source) c.run_command-ended.result _ c.report.ensures.status zero h) c.run_command-ended.ensures.gives
 
 pub returns-clause-prefix : goal.returns-clause-prefix
-returns-clause-prefix g c = λ s name file e.
-    c.show-ending.ensures.prefix (unwritten-ending _ _ c.report-2.ensures.status s) name file (sym (at_command _ _ _ _ c.in-Some.ensures.asked) ∙ e)
+returns-clause-prefix g c = λ four. SomeSource-weaker _ _ _ (λ source h. prefix g.O.Sink.told c.args.out.now c.run_command-ended.new.out (reads_of c.args.words.now source) (ending_of c.args.words.now source) c.run_command-ended.result _ c.report.ensures.status four h) c.run_command-ended.ensures.gives
+
+pub returns-clause-untouched : goal.returns-clause-untouched
+returns-clause-untouched g c = untouched c.run_command-ended.result _ _ c.report.ensures.status c.run_command-ended.ensures.untouched
+
+pub returns-clause-quiet : goal.returns-clause-quiet
+returns-clause-quiet g c = λ zero. quiet c.run_command-ended.result _ _ c.report.ensures.status zero c.report.ensures.quiet
+
+pub returns-clause-memory_message : goal.returns-clause-memory_message
+returns-clause-memory_message g c = λ one. memory (λ (m : List ℕ). Says g.E.Sink.told g.E.Sink.faults c.args.err.now c.report.new.err m) c.run_command-ended.result _ c.report.ensures.status one c.report.ensures.says
+
+pub returns-clause-usage_message : goal.returns-clause-usage_message
+returns-clause-usage_message g c = λ two. no_words (λ (m : List ℕ). Says g.E.Sink.told g.E.Sink.faults c.args.err.now c.report.new.err m) c.run_command-ended.result _ c.report.ensures.status two c.report.ensures.says
+
+pub returns-clause-unwritten_message : goal.returns-clause-unwritten_message
+returns-clause-unwritten_message g c = λ four. unwritten (λ (m : List ℕ). Says g.E.Sink.told g.E.Sink.faults c.args.err.now c.report.new.err m) c.run_command-ended.result _ c.report.ensures.status four c.report.ensures.says
+
+pub returns-clause-overflow_message : goal.returns-clause-overflow_message
+returns-clause-overflow_message g c = λ seven. over (λ (m : List ℕ). Says g.E.Sink.told g.E.Sink.faults c.args.err.now c.report.new.err m) c.run_command-ended.result _ c.report.ensures.status seven c.report.ensures.says
 
 pub returns-clause-unread_message : goal.returns-clause-unread_message
-returns-clause-unread_message g c = λ three ranks name e.
-    subst (λ (t : List ℕ). Says g.E.Sink.told g.E.Sink.faults c.args.err.now c.report-2.new.err t)
-    (ap (λ (x : Ending). message_of c.in-Some.command.file.now x) (unread-ending _ _ c.report-2.ensures.status three)
-    ∙ ap (λ (n : List ℕ). unread_message n) (same_command _ _ ranks _ name c.in-Some.ensures.asked e))
-    c.report-2.ensures.says
+returns-clause-unread_message g c = λ three.
+    SomeSource-weaker _ _ _ (λ source h. unread g.O.Sink.told c.args.out.now c.run_command-ended.new.out (reads_of c.args.words.now source) g.E.Sink.told g.E.Sink.faults c.args.err.now c.report.new.err _ _ (ending_of c.args.words.now source) c.run_command-ended.result _ c.report.ensures.status three c.report.ensures.says c.run_command-ended.ensures.unread h)
+    c.run_command-ended.ensures.gives
 
 pub returns-clause-refused_message : goal.returns-clause-refused_message
-returns-clause-refused_message g c = λ five name fault e.
-    subst (λ (t : List ℕ). Says g.E.Sink.told g.E.Sink.faults c.args.err.now c.report-2.new.err t)
-    (ap (λ (x : Ending). message_of c.in-Some.command.file.now x)
-    (refused-fault name fault c.show-ending.result _ c.report-2.ensures.status
-    (subst (λ (i : Input). EndsBy i c.show-ending.result) (sym (at_command _ _ _ _ c.in-Some.ensures.asked) ∙ e) c.show-ending.ensures.ends) five)
-    ∙ ap (λ (n : List ℕ). refused_message n fault) (told-name c.in-Some.command.file.now name (g.F.Files.told c.args.files.now) fault (sym (at_command _ _ _ _ c.in-Some.ensures.asked) ∙ e)))
-    c.report-2.ensures.says
+returns-clause-refused_message g c = λ five.
+    SomeSource-weaker _ _ _ (λ source h. refusal g.O.Sink.told c.args.out.now c.run_command-ended.new.out (reads_of c.args.words.now source) g.E.Sink.told g.E.Sink.faults c.args.err.now c.report.new.err (ending_of c.args.words.now source) c.run_command-ended.result _ c.report.ensures.status five c.report.ensures.says h)
+    c.run_command-ended.ensures.gives
 
-pub returns-in_default-clause-status : goal.returns-in_default-clause-status
-returns-in_default-clause-status g c = (NoCommand, c.report.ensures.status)
+pub returns-clause-no_read_fault : goal.returns-clause-no_read_fault
+returns-clause-no_read_fault g c = no_read c.run_command-ended.result _ _ c.report.ensures.status c.run_command-ended.ensures.no_read_fault
 
-pub returns-clause-status : goal.returns-clause-status
-returns-clause-status g c = (c.show-ending.result, c.report-2.ensures.status)
+pub returns-clause-unwritten : goal.returns-clause-unwritten
+returns-clause-unwritten g c = λ four. failed c.run_command-ended.result _ _ c.report.ensures.status four c.run_command-ended.ensures.unwritten
 
-pub returns-clause-some_refusal : goal.returns-clause-some_refusal
-returns-clause-some_refusal g c = λ five ranks name e.
-    let refusal = refused-ending c.show-ending.result c.report-2.result c.report-2.ensures.status five in (
-      refusal.0,
-      told-text c.in-Some.command.file.now (g.F.Files.told c.args.files.now) refusal.0
-          (subst (λ (x : Ending). EndsBy (told_input c.in-Some.command.file.now (g.F.Files.told c.args.files.now)) x) refusal.1 c.show-ending.ensures.ends),
-      subst (λ (t : List ℕ). Says g.E.Sink.told g.E.Sink.faults c.args.err.now c.report-2.new.err t)
-          (ap (λ (x : Ending). message_of c.in-Some.command.file.now x) refusal.1
-          ∙ ap (λ (n : List ℕ). refused_message n refusal.0) (same_command _ _ ranks _ name c.in-Some.ensures.asked e))
-          c.report-2.ensures.says,
-    )
+pub returns-clause-no_write_fault : goal.returns-clause-no_write_fault
+returns-clause-no_write_fault g c = unfailed g.O.Sink.faults c.args.out.now c.run_command-ended.new.out c.run_command-ended.result _ c.report.ensures.status c.run_command-ended.ensures.untouched c.run_command-ended.ensures.no_write_fault

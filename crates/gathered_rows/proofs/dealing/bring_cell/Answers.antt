@@ -1,6 +1,6 @@
 use Rattle.std.proofs.Common.{◌<◌, length, ◌∙◌, arith, length-set}
 use Rattle.gathered_rows.proofs.Blocks.{cells_in-push, AreOwnedFrom-push, owns_row-from}
-use Rattle.gathered_rows.proofs.dealing.send_cell.Goals as goal
+use Rattle.gathered_rows.proofs.dealing.bring_cell.Goals as goal
 
 pub returns-clause-cells : goal.returns-clause-cells
 returns-clause-cells g c =
