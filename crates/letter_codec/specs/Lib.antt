@@ -1,0 +1,5 @@
+pub mod Kinds
+pub mod Letters
+pub mod Parts
+pub mod RowWalk
+pub mod Writing
