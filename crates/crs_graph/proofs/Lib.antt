@@ -1,0 +1,4 @@
+pub mod Ascending
+pub mod Fills
+pub mod AllColumns
+pub mod Places

@@ -1,0 +1,24 @@
+//! The structure of a sparse matrix on one rank: which places its rows have, as `Tpetra::CrsGraph` keeps it.
+//!
+//! A `GraphFill` takes places by global row and column, in any order and each as often as it comes. Contracts see it as the
+//! list of its rows and, for each of them, the columns that it has, ascending: a set of places.
+//!
+//! ```text
+//! let mut fill = GraphFill::new(alloc, rows)?;
+//! let is_new = fill.insert(row, col)?;
+//! let columns = fill.columns()?;
+//! ```
+//!
+//! It stands on `map_core`, whose maps have the rows, and keeps rows under construction with `smallvec`. Matrices stand on
+//! it.
+#![tactic(auto)]
+
+mod columns;
+mod faults;
+mod fill;
+pub mod laws;
+#[cfg(test)]
+mod tests;
+
+pub use faults::FillFault;
+pub use fill::GraphFill;
