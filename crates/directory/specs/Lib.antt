@@ -1,0 +1,3 @@
+pub mod Directories
+pub mod Faults
+pub mod Registrations
