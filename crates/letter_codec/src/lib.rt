@@ -17,6 +17,7 @@
 #![tactic(auto)]
 
 mod kind;
+pub mod laws;
 mod letter;
 mod reading;
 mod rows;
