@@ -1,2 +1,4 @@
+pub mod FullBlocks
 pub mod Pools
+pub mod SamePools
 pub mod Written

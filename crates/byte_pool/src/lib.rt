@@ -17,6 +17,7 @@
 #![tactic(auto)]
 
 mod block;
+pub mod laws;
 mod lease;
 mod pool;
 #[cfg(test)]
