@@ -1,3 +1,5 @@
 pub mod Combined
 pub mod Numbered
 pub mod Reserved
+pub mod Arrived
+pub mod Absorbed

@@ -6,7 +6,8 @@ use Rattle.std.specs.List.Sorted.{IsStrictlyIncreasing}
 use Rattle.std.proofs.lemmas.List.{length-take}
 use Rattle.std.proofs.lemmas.Slice.Zip.{length-zip, firsts-zip}
 use Rattle.tables.specs.Indices.{count_from}
-use Rattle.distributor.specs.Entries.{Entry, entry_at, numbered, columns_of}
+use Rattle.std.proofs.lemmas.List.{length-map}
+use Rattle.distributor.specs.Entries.{Entry, entry_at, numbered, columns_of, placed, cells_for}
 use Rattle.distributor.proofs.Combined.{slice_get-zip}
 
 pub length-count_from : (n k : ℕ) → length (count_from n k) ≡ k
@@ -34,7 +35,7 @@ module _ {S : Type 0} where
   drop-nil zero = refl
   drop-nil (suc i) = refl
 
-  drop-drop : (m n : ℕ) (xs : List S) → drop n (drop m xs) ≡ drop (m + n) xs
+  pub drop-drop : (m n : ℕ) (xs : List S) → drop n (drop m xs) ≡ drop (m + n) xs
   drop-drop zero n xs = let e : n ≡ 0 + n = omega arith in ap (λ k. drop k xs) e
   drop-drop (suc m) n [] = drop-nil n ∙ sym (drop-nil (suc m + n))
   drop-drop (suc m) n (x ∷ xs) = drop-drop m n xs ∙ (let e : suc (m + n) ≡ suc m + n = omega arith in ap (λ k. drop k (x ∷ xs)) e)
@@ -59,6 +60,11 @@ module _ {S : Type 0} where
   length-take_most zero xs l = refl
   length-take_most (suc n) [] l = absurd (omega arith)
   length-take_most (suc n) (x ∷ xs) l = ap suc (length-take_most n xs (omega arith))
+
+  pub length-take_few : (n : ℕ) (xs : List S) → length (take n xs) ≤ n
+  length-take_few zero xs = omega arith
+  length-take_few (suc n) [] = omega arith
+  length-take_few (suc n) (x ∷ xs) = omega (arith, length-take_few n xs)
 
   pub length-numbered : (width : ℕ) (gids : List ℕ) (numbers : List S) → length (numbered width gids numbers) ≡ length gids
   length-numbered width [] numbers = refl
@@ -104,3 +110,7 @@ module _ {S : Type 0} where
       slice_get-zip (count_from 0 width) (take width (drop (at * width) numbers)) col _ _
       (slice_get-count_from 0 width col l ∙ (let z : 0 + col ≡ col = omega arith in ap Some z))
       (slice_get-take width col (drop (at * width) numbers) l ∙ slice_get-drop (at * width) col numbers ∙ e)
+
+  pub length-numbered-cells : (to width gid at : ℕ) (numbers : List S) → length (cells_for to (numbered_entry width gid at numbers)) ≤ width
+  length-numbered-cells to width gid at numbers =
+      omega (arith, length-map (numbered_entry width gid at numbers).cells (placed to), few-cells width gid at numbers)

@@ -18,11 +18,14 @@
 //! ```
 #![tactic(auto)]
 
+mod absorbing;
 mod combining;
+mod fault;
 mod source;
 mod target;
 mod transfer;
 
+pub use fault::AbsorbFault;
 pub use source::DistSource;
 pub use target::DistTarget;
 pub use transfer::Transfer;

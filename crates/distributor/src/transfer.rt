@@ -1,15 +1,19 @@
 //! Transfers by a plan.
-ghost use Rattle.std.specs.Prelude.{◌≡◌, ◌<◌, ◌≤◌, ◌^◌, ◌++◌, ℕ, true, None, Some, length, map, nat_lt, IfOk, IsOk, OnOk, OnErr};
+ghost use Rattle.std.specs.Prelude.{◌≡◌, ◌<◌, ◌≤◌, ◌^◌, ◌++◌, ℕ, true, None, Some, length, map, nat_lt, List, IfOk, IfErr, IsOk, OnOk, OnErr};
 ghost use Rattle.std.specs.List.{list_all};
-ghost use Rattle.distributor.specs.Entries.{with_cells};
+ghost use Rattle.distributor.specs.Entries.{Entry, with_cells};
 ghost use Rattle.distributor.specs.Transfers.{IsPartOf, own_moves, moved_cells, nums_length, letter_lengths, IsPartReserved};
 ghost use Rattle.byte_pool.specs.Blocks.{free_block};
-ghost use Rattle.map_core.specs.Plans.{export_list};
+ghost use Rattle.map_core.specs.Plans.{export_list, remote_list};
+ghost use Rattle.letter_codec.specs.Parts.{AreParts};
+ghost use Rattle.distributor.specs.Arrivals.{HasEntries, IsOfKind, IsFaultOf, IsNotThePlan, arrived_moves};
 
+use crate::absorbing::{combine_nums, combine_rows};
 use crate::combining::{combine_permuted, combine_same};
-use crate::{DistSource, DistTarget};
+use crate::{AbsorbFault, DistSource, DistTarget};
 use byte_pool::Pool;
 use combine_modes::Mode;
+use letter_codec::{Letter, entry_count};
 use map_core::Plan;
 use scalar_laws::Scalar;
 use std::alloc::AllocError;
@@ -82,6 +86,52 @@ impl Transfer {
         combine_same(source, self.plan.same(), target, mode)?;
         let froms = self.plan.permute_from();
         combine_permuted(source, froms, target, self.plan.permute_to(), mode)
+    }
+
+    /// Combines the entries of a letter from a rank with the cells of the target at the positions that the plan has for
+    /// this rank: entry k at position k of the list, one entry after the other, the cells of each in their order.
+    ///
+    /// The letter is of the transfer's kind, and the target takes every cell that comes. `NotThePlan` comes exactly where
+    /// the letter has another number of entries than the plan has positions, and then all stays. `NoMem` means that
+    /// memory ran out; then a first part of the cells was combined. It does not come where the target is `FIXED`.
+    pub fn absorb<S: Scalar, B: DistTarget<S>>(
+        &self,
+        letter: &Letter<'_>,
+        from: u32,
+        target: &mut B,
+        mode: Mode,
+    ) -> Result<(), AbsorbFault>
+        requires known { from < self.now.plan.ranks }
+        requires parts { AreParts letter.now }
+        requires kind { IsOfKind self.now.width letter.now }
+        requires taken { (entries : List (Entry S)) → HasEntries S.conversions self.now.width letter.now entries
+            → length entries ≡ length (remote_list self.now.plan from)
+            → list_all (λ c. B.takes target.old c.row c.col) (moved_cells entries (arrived_moves (remote_list self.now.plan from))) ≡ true }
+        ensures entries { (entries : List (Entry S)) × HasEntries S.conversions self.now.width letter.now entries }
+        ensures fault { (entries : List (Entry S)) → HasEntries S.conversions self.now.width letter.now entries
+            → IfErr result (IsFaultOf (length entries) (length (remote_list self.now.plan from))) }
+        ensures same_count { (entries : List (Entry S)) → HasEntries S.conversions self.now.width letter.now entries
+            → OnOk result (length entries ≡ length (remote_list self.now.plan from)) }
+        ensures cells { (entries : List (Entry S)) → HasEntries S.conversions self.now.width letter.now entries
+            → OnOk result (B.table target.new ≡ with_cells S.semiring mode B.FIXED (B.table target.old) (moved_cells entries (arrived_moves (remote_list self.now.plan from)))) }
+        ensures part { (entries : List (Entry S)) → HasEntries S.conversions self.now.width letter.now entries
+            → OnErr result (IsPartOf S.semiring mode B.FIXED (B.table target.old) (moved_cells entries (arrived_moves (remote_list self.now.plan from))) (B.table target.new)) }
+        ensures refused { IfErr result (λ fault. IsNotThePlan fault → B.table target.new ≡ B.table target.old) }
+        ensures takes { B.takes target.new ≡ B.takes target.old }
+        ensures shape { B.same_shape target.old target.new }
+        ensures always { B.FIXED ≡ true → IfErr result IsNotThePlan }
+    {
+        let positions = self.plan.remotes_from(from);
+        let have = entry_count(letter);
+        let want = positions.len() as u64;
+        if have != want {
+            return Err(AbsorbFault::NotThePlan { have, want });
+        }
+        match self.width {
+            Some(width) => combine_nums(letter, width, positions, target, mode)?,
+            None => combine_rows(letter, positions, target, mode)?,
+        }
+        Ok(())
     }
 }
 
