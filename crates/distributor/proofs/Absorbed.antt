@@ -1,9 +1,9 @@
 -- Which entries a letter has.
-use Rattle.std.proofs.Common.{◌≡◌, ℕ, ◌*◌, List, Option, Some, None, refl, sym, ap, subst, ◌∙◌, arith, length}
+use Rattle.std.proofs.Common.{◌≡◌, ℕ, ◌*◌, List, Option, Some, None, refl, sym, ap, subst, ◌∙◌, length}
 use Rattle.std.specs.Prelude.{Result, Ok, Err, IfErr}
 use Rattle.scalar_laws.specs.Conversions.{Conversions}
 use Rattle.letter_codec.specs.declared.kind.Kind.{Kind}
-use Rattle.letter_codec.specs.declared.kind.Kind.TheVariants.{Nums, Rows}
+use Rattle.letter_codec.specs.declared.kind.Kind.TheVariants.{Rows}
 use Rattle.letter_codec.specs.declared.letter.Letter.{Letter}
 use Rattle.letter_codec.specs.Letters.{RowEntry, AreRows, HasForm, place_count}
 use Rattle.letter_codec.specs.Parts.{AreParts, IsEntryCount, words_of}

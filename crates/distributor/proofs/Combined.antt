@@ -1,7 +1,7 @@
 -- Cells that come for a table, one after the other, and the entries that they belong to.
-use Rattle.std.proofs.Common.{◌≡◌, ℕ, zero, suc, ◌+◌, ◌<◌, ◌≤◌, append_assoc, append-nil, Bool, true, false, cond, ◌&&◌, List, [], ◌∷◌, ◌++◌, map, Option, None, Some, refl, sym, ap, ◌∙◌, arith, length, get_or, take, drop, add-one}
-use Rattle.std.specs.Prelude.{slice_get, nat_lt, Result, Ok, Err, OnErr, OnOk}
-use Rattle.std.specs.List.{list_all, flat_map, zip}
+use Rattle.std.proofs.Common.{◌≡◌, ℕ, zero, suc, ◌+◌, ◌<◌, ◌≤◌, append_assoc, append-nil, Bool, true, false, ◌&&◌, List, [], ◌∷◌, ◌++◌, map, None, Some, refl, sym, ap, ◌∙◌, arith, length, take, drop, add-one}
+use Rattle.std.specs.Prelude.{slice_get, Result, Ok, Err, OnErr}
+use Rattle.std.specs.List.{list_all, zip}
 use Rattle.std.proofs.lemmas.List.{take-append-drop}
 use Rattle.std.proofs.lemmas.List.Sums.{fold-append}
 use Rattle.std.proofs.lemmas.Option.{slice_get-map}

@@ -3,3 +3,4 @@ pub mod Numbered
 pub mod Reserved
 pub mod Arrived
 pub mod Absorbed
+pub mod Written

@@ -1,5 +1,5 @@
 -- What moves between ranks: entries with their cells, and the cells that come for a target.
-use Rattle.std.specs.Prelude.{◌≡◌, ℕ, Bool, true, List, [], ◌∷◌, map, take, drop, is_some, slice_get, Option, None, Some}
+use Rattle.std.specs.Prelude.{◌≡◌, ℕ, Bool, true, List, [], ◌∷◌, map, take, drop, is_some, slice_get, Some}
 use Rattle.std.specs.List.{fold, zip}
 use Rattle.std.specs.Option.{unwrap_or}
 use Rattle.scalar_laws.specs.Semiring.{Semiring}

@@ -1,3 +1,4 @@
 pub mod Entries
 pub mod Transfers
 pub mod Arrivals
+pub mod Packed

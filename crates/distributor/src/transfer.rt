@@ -1,19 +1,22 @@
 //! Transfers by a plan.
-ghost use Rattle.std.specs.Prelude.{◌≡◌, ◌<◌, ◌≤◌, ◌^◌, ◌++◌, ℕ, true, None, Some, length, map, nat_lt, List, IfOk, IfErr, IsOk, OnOk, OnErr};
+ghost use Rattle.std.specs.Prelude.{◌≡◌, ◌<◌, ◌≤◌, ◌^◌, ◌++◌, ℕ, true, None, Some, length, map, nat_lt, ◌==◌, count_by, List, IfOk, IfErr, IsOk, OnOk, OnErr};
 ghost use Rattle.std.specs.List.{list_all};
 ghost use Rattle.distributor.specs.Entries.{Entry, with_cells};
 ghost use Rattle.distributor.specs.Transfers.{IsPartOf, own_moves, moved_cells, nums_length, letter_lengths, IsPartReserved};
-ghost use Rattle.byte_pool.specs.Blocks.{free_block};
+ghost use Rattle.byte_pool.specs.Blocks.{free_block, has_room};
+ghost use Rattle.byte_pool.specs.Leases.{IsLeastRoom, leases, sizes, with_lease};
+ghost use Rattle.distributor.specs.Packed.{kind_of, sent_entries, entries_letter, with_room};
 ghost use Rattle.map_core.specs.Plans.{export_list, remote_list};
 ghost use Rattle.letter_codec.specs.Parts.{AreParts};
 ghost use Rattle.distributor.specs.Arrivals.{HasEntries, IsOfKind, IsFaultOf, IsNotThePlan, arrived_moves};
 
 use crate::absorbing::{combine_nums, combine_rows};
 use crate::combining::{combine_permuted, combine_same};
+use crate::packing::{count_cells, count_words, lend_letter, make_room};
 use crate::{AbsorbFault, DistSource, DistTarget};
-use byte_pool::Pool;
+use byte_pool::{Lease, Pool};
 use combine_modes::Mode;
-use letter_codec::{Letter, entry_count};
+use letter_codec::{Kind, Letter, entry_count, letter_len};
 use map_core::Plan;
 use scalar_laws::Scalar;
 use std::alloc::AllocError;
@@ -86,6 +89,51 @@ impl Transfer {
         combine_same(source, self.plan.same(), target, mode)?;
         let froms = self.plan.permute_from();
         combine_permuted(source, froms, target, self.plan.permute_to(), mode)
+    }
+
+    /// The letter of the entries that the plan exports to a rank, in the order of their list and no others, in a block that
+    /// the pool lends. The plan exports some entry to this rank, and its positions are those of the source.
+    ///
+    /// For entries of equally many numbers the kind is `Nums`, each entry has `width` cells, and the pool has a free block
+    /// with room for the letter; the answer is `Ok`, and no memory is taken. For rows the kind is `Rows`, each entry has
+    /// fewer than 2^32 cells, the letter has fewer than 2^64 bytes, and a block of its length is made first; `Err` means
+    /// that memory ran out for it, and then the pool stays as it is. The block is the least that is large enough, and
+    /// all other leases keep their bytes.
+    pub fn pack<S: Scalar, A: DistSource<S>>(
+        &self,
+        kind: Kind,
+        source: &A,
+        to: u32,
+        pool: &mut Pool,
+    ) -> Result<Lease, AllocError>
+        requires rank { to < self.now.plan.ranks }
+        requires kind { kind ≡ kind_of self.now.width }
+        requires some_entry { 1 ≤ length (export_list self.now.plan to) }
+        requires known { list_all (λ p. nat_lt p (length (A.entries source.now))) (export_list self.now.plan to) ≡ true }
+        requires widths { (width : ℕ) → self.now.width ≡ Some width
+            → list_all (λ e. length e.cells == width) (sent_entries (A.entries source.now) (export_list self.now.plan to)) ≡ true }
+        requires room { let letter = entries_letter S.conversions kind (sent_entries (A.entries source.now) (export_list self.now.plan to)) in
+            kind ≡ Kind.Nums → 1 ≤ count_by (has_room (length letter)) pool.old }
+        requires few { kind ≡ Kind.Rows
+            → list_all (λ e. nat_lt (length e.cells) 4294967296) (sent_entries (A.entries source.now) (export_list self.now.plan to)) ≡ true }
+        requires fits { let letter = entries_letter S.conversions kind (sent_entries (A.entries source.now) (export_list self.now.plan to)) in
+            kind ≡ Kind.Rows → length letter < 2 ^ 64 }
+        ensures always { kind ≡ Kind.Nums → IsOk result }
+        ensures least { let letter = entries_letter S.conversions kind (sent_entries (A.entries source.now) (export_list self.now.plan to)) in
+            IfOk result (λ lease. IsLeastRoom (length letter) (with_room kind (length letter) pool.old) lease) }
+        ensures fresh { IfOk result (λ lease. leases pool.old lease ≡ None) }
+        ensures letter { let letter = entries_letter S.conversions kind (sent_entries (A.entries source.now) (export_list self.now.plan to)) in
+            IfOk result (λ lease. leases pool.new ≡ with_lease (leases pool.old) lease letter) }
+        ensures sizes { let letter = entries_letter S.conversions kind (sent_entries (A.entries source.now) (export_list self.now.plan to)) in
+            OnOk result (sizes pool.new ≡ sizes (with_room kind (length letter) pool.old)) }
+        ensures err { OnErr result (pool.new ≡ pool.old) }
+    {
+        let list = self.plan.exports_to(to);
+        let cells = count_cells(source, list);
+        let words = count_words(kind, list.len() as u64, cells);
+        let len = letter_len(words, cells);
+        make_room(kind, len, pool)?;
+        Ok(lend_letter(pool, len, kind, words, source, list))
     }
 
     /// Combines the entries of a letter from a rank with the cells of the target at the positions that the plan has for

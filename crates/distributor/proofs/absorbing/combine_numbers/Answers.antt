@@ -1,7 +1,5 @@
-use Rattle.std.proofs.Common.{◌≡◌, ◌∙◌, ap, sym, arith, take, drop, ◌*◌, ◌+◌, ◌≤◌, Some, length, map}
-use Rattle.std.specs.Prelude.{slice_get}
-use Rattle.std.specs.List.{zip}
-use Rattle.distributor.specs.Entries.{Entry, cells_for, with_cells}
+use Rattle.std.proofs.Common.{◌∙◌, ap, sym, arith, ◌*◌, ◌+◌, ◌≤◌, Some, length}
+use Rattle.distributor.specs.Entries.{cells_for, with_cells}
 use Rattle.distributor.specs.Arrivals.{numbers_in}
 use Rattle.distributor.proofs.Combined.{on_err, cell-taken, entry-more, part-at, take_whole}
 use Rattle.distributor.proofs.Numbered.{numbered_entry, cell-numbered, length-numbered-cells}

@@ -1,8 +1,8 @@
-use Rattle.std.proofs.Common.{◌≡◌, ◌∙◌, ap, sym, arith, take, drop, ◌*◌, ◌+◌, ◌≤◌, ◌<◌, Some, true, length, map, get_or}
+use Rattle.std.proofs.Common.{◌∙◌, ap, sym, arith, ◌≤◌, ◌<◌, length, get_or}
 use Rattle.std.specs.List.{list_all}
 use Rattle.std.proofs.Math.Nat.{mul-le-mul_right}
 use Rattle.letter_codec.specs.Parts.{words_of}
-use Rattle.distributor.specs.Entries.{Entry, entry_at, cells_for, numbered, with_cells}
+use Rattle.distributor.specs.Entries.{entry_at, cells_for, numbered, with_cells}
 use Rattle.distributor.specs.Arrivals.{numbers_in, arrived_moves}
 use Rattle.distributor.proofs.Combined.{on_err, entry-taken, moves-more, moves-part, moves-all, part-of-same}
 use Rattle.distributor.proofs.Numbered.{numbered_entry, entry_at-numbered}

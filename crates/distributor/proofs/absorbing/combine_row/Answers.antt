@@ -1,5 +1,4 @@
-use Rattle.std.proofs.Common.{◌≡◌, ◌∙◌, ap, sym, arith, take, drop, ◌*◌, ◌+◌, ◌≤◌, ◌<◌, Some, length, map, get_or}
-use Rattle.std.specs.Prelude.{slice_get}
+use Rattle.std.proofs.Common.{◌∙◌, ap, sym, arith, take, drop, ◌*◌, ◌+◌, ◌≤◌, ◌<◌, Some, length}
 use Rattle.std.specs.List.{zip}
 use Rattle.std.proofs.lemmas.Option.{slice_get-get_or}
 use Rattle.letter_codec.specs.Parts.{words_of}

@@ -1,12 +1,10 @@
-use Rattle.std.proofs.Common.{◌≡◌, ◌∙◌, ap, sym, arith, take, drop, ◌*◌, ◌+◌, ◌≤◌, ◌<◌, ◌++◌, List, ℕ, suc, Some, true, length, map, get_or}
-use Rattle.std.specs.Prelude.{slice_get}
-use Rattle.std.specs.List.{list_all, zip, flat_map}
-use Rattle.letter_codec.specs.Letters.{RowEntry, AreRows, entry_words, place_count}
+use Rattle.std.proofs.Common.{◌∙◌, ap, sym, arith, take, drop, ◌+◌, ◌≤◌, ◌<◌, length, get_or}
+use Rattle.std.specs.List.{list_all, zip}
 use Rattle.letter_codec.specs.Parts.{words_of}
-use Rattle.distributor.specs.Entries.{Entry, entry_at, cells_for, with_cells}
+use Rattle.distributor.specs.Entries.{entry_at, cells_for, with_cells}
 use Rattle.distributor.specs.Arrivals.{numbers_in, with_numbers, arrived_moves}
 use Rattle.distributor.proofs.Combined.{on_err, entry-taken, moves-more, moves-part, moves-all, part-of-same}
-use Rattle.distributor.proofs.Arrived.{CountedStep, RowStep, row-step, counted-step, rows-unique, slice_get-arrived, length-arrived}
+use Rattle.distributor.proofs.Arrived.{row-step, counted-step, rows-unique, slice_get-arrived, length-arrived}
 use Rattle.distributor.proofs.absorbing.combine_rows.Goals as goal
 
 pub overflow_add-words_done : goal.overflow_add-words_done

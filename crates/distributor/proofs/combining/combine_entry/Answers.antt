@@ -1,7 +1,6 @@
 use Rattle.distributor.specs.Entries.{entry_at, cells_for}
 use Rattle.distributor.proofs.Combined.{on_err, cell-taken, entry-more, part-at}
-use Rattle.std.proofs.Common.{◌∙◌, ap, sym, ◌≡◌, true}
-use Rattle.std.specs.List.{list_all}
+use Rattle.std.proofs.Common.{◌∙◌}
 use Rattle.distributor.proofs.combining.combine_entry.Goals as goal
 
 pub combine-requires : goal.combine-requires

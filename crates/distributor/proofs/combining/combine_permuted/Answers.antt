@@ -1,6 +1,6 @@
-use Rattle.std.proofs.Common.{◌∙◌, ap, ◌≤◌, arith, length, sym, ◌≡◌, ◌<◌, ℕ, get_or, Some}
+use Rattle.std.proofs.Common.{◌∙◌, ◌≤◌, arith, length, ◌<◌, get_or}
 use Rattle.std.specs.List.{list_all, zip}
-use Rattle.std.specs.Prelude.{nat_lt, slice_get}
+use Rattle.std.specs.Prelude.{nat_lt}
 use Rattle.std.proofs.lemmas.Option.{slice_get-get_or}
 use Rattle.std.proofs.lemmas.Slice.Zip.{length-zip}
 use Rattle.distributor.specs.Entries.{entry_at, cells_for}

@@ -1,4 +1,4 @@
-use Rattle.std.proofs.Common.{◌∙◌, ap, ◌≤◌, arith, length, sym, ◌≡◌, ◌<◌}
+use Rattle.std.proofs.Common.{◌∙◌, ◌≤◌, arith, length}
 use Rattle.std.specs.List.{list_all}
 use Rattle.std.specs.Prelude.{nat_lt}
 use Rattle.distributor.specs.Entries.{entry_at, cells_for}

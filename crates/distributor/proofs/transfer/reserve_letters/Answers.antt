@@ -1,4 +1,3 @@
-use Rattle.distributor.specs.Transfers.{nums_length}
 use Rattle.distributor.proofs.Combined.{on_err}
 use Rattle.distributor.proofs.Reserved.{part-reserved}
 use Rattle.distributor.proofs.transfer.reserve_letters.Goals as goal

@@ -1,8 +1,8 @@
-use Rattle.std.proofs.Common.{◌≡◌, ◌∙◌, ap, sym, arith, List, length, Some, None, Option, ℕ, true, subst, refl, rules}
+use Rattle.std.proofs.Common.{◌≡◌, ◌∙◌, ap, sym, length, Some, None, Option, ℕ, true, subst, refl, rules}
 use Rattle.std.specs.List.{list_all}
 use Rattle.map_core.specs.Plans.{remote_list}
 use Rattle.letter_codec.specs.Parts.{words_of}
-use Rattle.distributor.specs.Entries.{Entry, numbered}
+use Rattle.distributor.specs.Entries.{numbered}
 use Rattle.distributor.specs.Transfers.{TransferState, moved_cells}
 use Rattle.distributor.specs.Arrivals.{numbers_in, with_numbers, arrived_moves, IsOfKind}
 use Rattle.distributor.proofs.Arrived.{length-with_numbers}
