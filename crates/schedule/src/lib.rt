@@ -25,6 +25,8 @@ mod fault;
 mod flow;
 pub mod laws;
 mod order;
+mod register;
+mod tally;
 #[cfg(test)]
 mod tests;
 mod text;

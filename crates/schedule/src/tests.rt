@@ -69,6 +69,32 @@ fn letters_are_drawn_by_seed(rt: HostRuntime) -> Result<(), Fail> {
     Ok(())
 }
 
+/// Posts so many letters, three before each delivery, and delivers all: a number made of their phases in order of
+/// delivery, and the chooser.
+fn played(alloc: Global, count: u32, from: Chooser) -> Result<(u32, Chooser), AllocError> {
+    let mut flow = Flow::new(alloc);
+    let mut chooser = from;
+    let mut mixed = 0u32;
+    for turn in 0..count {
+        for phase in turn.saturating_mul(3)..turn.saturating_mul(3).saturating_add(3).min(count) {
+            post(&mut flow, name(phase, 0, 1))?;
+        }
+        if let Some(letter) = flow.choose(&mut chooser) {
+            mixed = mixed.wrapping_mul(31).wrapping_add(letter.phase);
+            flow.deliver(letter);
+        }
+    }
+    Ok((mixed, chooser))
+}
+
+#[test]
+fn letters_are_drawn_while_others_are_posted(rt: HostRuntime) -> Result<(), Fail> {
+    let (mixed, chooser) = played(rt.alloc(), 3000, Chooser::Seed(7))?;
+    assert_eq!(rt; mixed, 2755695674);
+    assert_eq!(rt; chooser, Chooser::Seed(6124869563400047167));
+    Ok(())
+}
+
 #[test]
 fn small_schedules_are_read(rt: HostRuntime) -> Result<(), Fail> {
     let entries = read_schedule(rt.alloc(), b"# a\n\n0 1 0\n")?;
