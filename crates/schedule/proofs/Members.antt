@@ -9,26 +9,6 @@ use Rattle.outside.specs.Letters.{same_name}
 use Rattle.outside.proofs.Names.{same_name-is, same_name-refl, same_name_equiv}
 use Rattle.peers.specs.Protocols.{stands_in}
 pub use Rattle.peers.proofs.Members.{stands_in-push}
-use Rattle.schedule.specs.Flights.{without}
-
--- a filter makes no list longer
-pub length-kept : (p : Name → Bool) (names : List Name) → length (filter p names) ≤ length names
-length-kept p [] = omega arith
-length-kept p (x ∷ xs) = go (p x) (length-kept p xs)
-  where
-    go : (b : Bool) → length (filter p xs) ≤ length xs → length (cond b (x ∷ filter p xs) (filter p xs)) ≤ length (x ∷ xs)
-    go true rest = omega arith
-    go false rest = omega arith
-
--- what stands in the list is taken out
-pub length-without : (n : Name) (names : List Name) → stands_in names n ≡ true → length (without n names) + 1 ≤ length names
-length-without n [] s = absurd (cc)
-length-without n (x ∷ xs) s = go (same_name n x) s (length-without n xs)
-  where
-    go : (b : Bool) → (b || stands_in xs n) ≡ true → (stands_in xs n ≡ true → length (without n xs) + 1 ≤ length xs) →
-        length (cond (not b) (x ∷ without n xs) (without n xs)) + 1 ≤ length (x ∷ xs)
-    go true e rest = let short = length-kept (λ m. not (same_name n m)) xs in omega arith
-    go false e rest = let short = rest e in omega arith
 
 -- of a name in the list the test holds that holds of all of it
 pub all_at : (p : Name → Bool) (names : List Name) (n : Name) → list_all p names ≡ true → stands_in names n ≡ true → p n ≡ true
