@@ -12,7 +12,7 @@ use Rattle.mm_text.specs.declared.file_data.Line.{Line}
 use Rattle.mm_text.specs.declared.file_data.Mirror.{Mirror}
 use Rattle.mm_text.specs.declared.file_data.Mirror.TheVariants.{Negated}
 use Rattle.mm_text.specs.declared.reading.sizes.Sizes.{Sizes}
-use Rattle.mm_text.specs.Entries.{all_three, dense_value, entries_of, entry_by, entry_of, is_negated, is_out, narrow, pattern_cell, placed, valued_cell}
+use Rattle.mm_text.specs.Entries.{all_three, dense_value, entries_of, entry_by, entry_of, is_negated, is_out, narrow, pattern_cell, entry_placed, valued_cell}
 use Rattle.mm_text.specs.Lines.{Text, one_word, three_words, two_words, words_of}
 use Rattle.mm_text.specs.Numerals.{count_of, in_width, value_of}
 use Rattle.mm_text.specs.Outcomes.{Outcome, ◌>>=◌, or_fault}
@@ -105,7 +105,7 @@ narrow_placed m s number i j (Some v) h row col apart' = good_ok (IsPlaced m s) 
 })
 narrow_placed m s number i j None h row col apart' = good_bad (IsPlaced m s) _
 
-placed_good : (m : Mirror) (s : Sizes) (number : ℕ) (c : Cell) → IsNarrow c.value → Good (IsPlaced m s) (placed m s number c)
+placed_good : (m : Mirror) (s : Sizes) (number : ℕ) (c : Cell) → IsNarrow c.value → Good (IsPlaced m s) (entry_placed m s number c)
 placed_good m s number c h =
     good_cond (IsPlaced m s) (is_out s.rows c.row || is_out s.cols c.col) _ _ (λ _. good_bad (IsPlaced m s) _) (λ e.
     let in' = or_false (is_out s.rows c.row) (is_out s.cols c.col) e in
@@ -130,12 +130,12 @@ IsEntryBy Dense m s at line = IsDenseAt s at line
 
 entry_by_good : (k : Kind) (m : Mirror) (s : Sizes) (number at : ℕ) (words : List Text) → Good (IsEntryBy k m s at) (entry_by k m s number at words)
 entry_by_good Valued m s number at words =
-    good_then (λ c. IsNarrow c.value) (IsPlaced m s) (or_fault (BadLine number) (valued_cell words)) (placed m s number)
+    good_then (λ c. IsNarrow c.value) (IsPlaced m s) (or_fault (BadLine number) (valued_cell words)) (entry_placed m s number)
     (good_or (λ c. IsNarrow c.value) (BadLine number) (valued_cell words)
     (then_some (λ c. IsNarrow c.value) _ (three_words words) (λ w. three_narrow (count_of w.0) (count_of w.1) (option_map in_width (value_of w.2)) (map_narrow (value_of w.2)))))
     (placed_good m s number)
 entry_by_good Pattern m s number at words =
-    good_then (λ c. IsNarrow c.value) (IsPlaced m s) (or_fault (BadLine number) (pattern_cell words)) (placed m s number)
+    good_then (λ c. IsNarrow c.value) (IsPlaced m s) (or_fault (BadLine number) (pattern_cell words)) (entry_placed m s number)
     (good_or (λ c. IsNarrow c.value) (BadLine number) (pattern_cell words)
     (then_some (λ c. IsNarrow c.value) _ (two_words words) (λ w. three_narrow (count_of w.0) (count_of w.1) (Some (Some (pos 1))) one_narrow)))
     (placed_good m s number)

@@ -1,9 +1,10 @@
 -- Small texts, and what they are read as.
 use Rattle.std.proofs.Common.{◌≡◌, ℕ, List, [], ◌∷◌, ◌++◌, Ok, Err, codes, pos, negsuc, refl, take, flat_map, length}
-use Rattle.mm_text.specs.declared.fault.MmFault.TheVariants.{NoBanner, BadBanner, UnsupportedField, BadSize, BadLine, TooFew, NumberTooWide}
+use Rattle.mm_text.specs.declared.fault.MmFault.TheVariants.{NoBanner, BadBanner, UnsupportedField, BadSize, BadLine, TooFew, NumberTooWide, TooManyEntries, TooLong}
 use Rattle.mm_text.specs.declared.file_data.Form.TheVariants.{Coordinate}
 use Rattle.mm_text.specs.declared.file_data.Line.{Line}
 use Rattle.mm_text.specs.declared.file_data.Mirror.TheVariants.{Plain, Same, Negated}
+use Rattle.mm_text.specs.declared.profile.Profile.{Profile}
 use Rattle.mm_text.specs.Limits.{profile_of}
 use Rattle.mm_text.specs.Lines.{Text}
 use Rattle.mm_text.specs.Outcomes.{Outcome}
@@ -151,3 +152,32 @@ greatest = refl
 too_wide : read (lines (banner ∷ codes "1 1 1" ∷ codes "1 1 170141183460469231731687303715884105728" ∷ [])) ≡ Err (NumberTooWide 3)
 unfolding reading
 too_wide = refl
+
+-- The same text at small limits: those of its own are kept, and one less of each is not.
+abbrev small : Profile
+small = record { form = Coordinate; bytes = 80; entries = 4; rows = 3; cols = 3 }
+
+within_limits : reading small four ≡ Ok four_file
+unfolding reading
+within_limits = refl
+
+too_few_bytes : reading (record small { bytes = 79 }) four ≡ Err TooLong
+unfolding reading
+too_few_bytes = refl
+
+too_few_entries : reading (record small { entries = 3 }) four ≡ Err TooManyEntries
+unfolding reading
+too_few_entries = refl
+
+too_few_rows : reading (record small { rows = 2 }) four ≡ Err BadSize
+unfolding reading
+too_few_rows = refl
+
+too_few_cols : reading (record small { cols = 2 }) four ≡ Err BadSize
+unfolding reading
+too_few_cols = refl
+
+-- a fault in a line that ends within the bytes comes before the end of them
+fault_before_the_end : reading (record small { bytes = 79; cols = 2 }) four ≡ Err BadSize
+unfolding reading
+fault_before_the_end = refl

@@ -18,12 +18,12 @@ use Rattle.mm_text.specs.declared.file_data.Form.TheVariants as form
 use Rattle.mm_text.specs.declared.file_data.Line.{Line}
 use Rattle.mm_text.specs.declared.file_data.Mirror.{Mirror}
 use Rattle.mm_text.specs.declared.reading.sizes.Sizes.{Sizes}
-use Rattle.mm_text.specs.Banner.{banner_of, field_named, form_named, kind_of, mirror_of, named, object_named, same_form, supported, symmetry_named}
-use Rattle.mm_text.specs.Entries.{dense_value, entries_of, entry_by, entry_of, narrow, pattern_cell, placed, valued_cell}
+use Rattle.mm_text.specs.Banner.{banner_of, field_named, form_named, kind_of, mirror_of, banner_named, object_named, same_form, banner_supported, symmetry_named}
+use Rattle.mm_text.specs.Entries.{dense_value, entries_of, entry_by, entry_of, narrow, pattern_cell, entry_placed, valued_cell}
 use Rattle.mm_text.specs.Lines.{Text, four_words, kept_from, lines_of, words_of}
 use Rattle.mm_text.specs.Outcomes.{IsTextFault, Outcome, ◌>>=◌, at_end, or_fault}
-use Rattle.mm_text.specs.Reading.{body_of, complete, entries_in, lines_read, no_more, reading, sized}
-use Rattle.mm_text.specs.Sizes.{announced, limited, sizes_of}
+use Rattle.mm_text.specs.Reading.{body_of, complete, entries_in, lines_read, no_more, reading, file_sized}
+use Rattle.mm_text.specs.Sizes.{sizes_announced, sizes_limited, sizes_of}
 
 record Fits {A : Type 0} (r : Outcome A) : Type 0 where
   holds : IfErr r IsTextFault
@@ -74,11 +74,11 @@ mirror_fits kind.Dense symmetry.Symmetric = record { holds = tt }
 mirror_fits kind.Dense symmetry.SkewSymmetric = record { holds = tt }
 mirror_fits kind.Dense symmetry.Hermitian = record { holds = tt }
 
-supported_fits : (want f : Form) (fd : Field) (s : Symmetry) → Fits (supported want f fd s)
+supported_fits : (want f : Form) (fd : Field) (s : Symmetry) → Fits (banner_supported want f fd s)
 supported_fits want f fd s =
     then_fits (kind_of f fd) _ (kind_fits f fd) (λ k. then_fits (mirror_of k s) _ (mirror_fits k s) (λ m. cond_fits (same_form want f) _ _ (ok _) (bad WrongForm tt)))
 
-named_fits : (want : Form) (w : Text × Text × Text × Text) → Fits (named want w)
+named_fits : (want : Form) (w : Text × Text × Text × Text) → Fits (banner_named want w)
 named_fits want w =
     then_fits (or_fault BadBanner (object_named w.0)) _ (or_fits BadBanner (object_named w.0) tt) (λ o.
     then_fits (or_fault BadBanner (form_named w.1)) _ (or_fits BadBanner (form_named w.1) tt) (λ f.
@@ -89,27 +89,27 @@ named_fits want w =
 banner_fits : (want : Form) (words : List Text) → Fits (banner_of want words)
 banner_fits want [] = bad NoBanner tt
 banner_fits want (mark ∷ words) =
-    cond_fits _ _ _ (then_fits (or_fault BadBanner (four_words words)) (named want) (or_fits BadBanner (four_words words) tt) (named_fits want)) (bad NoBanner tt)
+    cond_fits _ _ _ (then_fits (or_fault BadBanner (four_words words)) (banner_named want) (or_fits BadBanner (four_words words) tt) (named_fits want)) (bad NoBanner tt)
 
-limited_fits : (m : Mirror) (profile : Profile) (s : Sizes) → Fits (limited m profile s)
+limited_fits : (m : Mirror) (profile : Profile) (s : Sizes) → Fits (sizes_limited m profile s)
 limited_fits m profile s = cond_fits _ _ _ (bad BadSize tt) (cond_fits _ _ _ (bad NotSquare tt) (cond_fits _ _ _ (bad TooManyEntries tt) (ok s)))
 
 sizes_fits : (banner : Banner) (profile : Profile) (words : List Text) → Fits (sizes_of banner profile words)
 sizes_fits banner profile words =
-    then_fits (or_fault BadSize (announced banner.kind words)) _ (or_fits BadSize (announced banner.kind words) tt) (limited_fits banner.mirror profile)
+    then_fits (or_fault BadSize (sizes_announced banner.kind words)) _ (or_fits BadSize (sizes_announced banner.kind words) tt) (limited_fits banner.mirror profile)
 
 narrow_fits : (number row col : ℕ) (value : Option ℤ) → Fits (narrow number row col value)
 narrow_fits number row col (Some value) = ok _
 narrow_fits number row col None = bad (NumberTooWide number) tt
 
-placed_fits : (m : Mirror) (s : Sizes) (number : ℕ) (c : Cell) → Fits (placed m s number c)
+placed_fits : (m : Mirror) (s : Sizes) (number : ℕ) (c : Cell) → Fits (entry_placed m s number c)
 placed_fits m s number c = cond_fits _ _ _ (bad (OutOfRange number) tt) (cond_fits _ _ _ (bad (SkewDiagonal number) tt) (narrow_fits number _ _ c.value))
 
 entry_by_fits : (k : Kind) (m : Mirror) (s : Sizes) (number at : ℕ) (words : List Text) → Fits (entry_by k m s number at words)
 entry_by_fits kind.Valued m s number at words =
-    then_fits (or_fault (BadLine number) (valued_cell words)) (placed m s number) (or_fits (BadLine number) (valued_cell words) tt) (placed_fits m s number)
+    then_fits (or_fault (BadLine number) (valued_cell words)) (entry_placed m s number) (or_fits (BadLine number) (valued_cell words) tt) (placed_fits m s number)
 entry_by_fits kind.Pattern m s number at words =
-    then_fits (or_fault (BadLine number) (pattern_cell words)) (placed m s number) (or_fits (BadLine number) (pattern_cell words) tt) (placed_fits m s number)
+    then_fits (or_fault (BadLine number) (pattern_cell words)) (entry_placed m s number) (or_fits (BadLine number) (pattern_cell words) tt) (placed_fits m s number)
 entry_by_fits kind.Dense m s number at words =
     then_fits (or_fault (BadLine number) (dense_value words)) _ (or_fits (BadLine number) (dense_value words) tt) (narrow_fits number _ _)
 
@@ -132,7 +132,7 @@ body_fits whole banner s lines =
     (then_fits (entries_of banner s 0 (take s.count lines)) _ (entries_fit banner s 0 (take s.count lines)) (λ found. complete_fits whole s.count found (drop s.count lines)))
     (λ entries. ok _)
 
-sized_fits : (whole : Bool) (profile : Profile) (banner : Banner) (lines : List (ℕ × Text)) → Fits (sized whole profile banner lines)
+sized_fits : (whole : Bool) (profile : Profile) (banner : Banner) (lines : List (ℕ × Text)) → Fits (file_sized whole profile banner lines)
 sized_fits whole profile banner [] = at_end_fits whole _ (bad BadSize tt)
 sized_fits whole profile banner (line ∷ lines) =
     then_fits (sizes_of banner profile (words_of line.1)) _ (sizes_fits banner profile (words_of line.1)) (λ s. body_fits whole banner s lines)

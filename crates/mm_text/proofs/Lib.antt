@@ -1,5 +1,3 @@
-pub mod LineLemmas
-pub mod WordLemmas
 pub mod NumeralLemmas
 pub mod EntryLemmas
 pub mod TextLemmas

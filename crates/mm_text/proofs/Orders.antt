@@ -3,7 +3,7 @@ use Rattle.std.proofs.Common.{◌≡◌, ℕ, ◌+◌, ◌-◌, ◌<◌, ◌≤�
 use Rattle.std.proofs.lemmas.List.{get_or_default}
 use Rattle.std.proofs.lemmas.Bool.{cases_lt}
 use Rattle.mm_text.specs.declared.shown.Shown.{Shown}
-use Rattle.mm_text.specs.Written.{IsBefore, AreInOrder}
+use Rattle.mm_text.specs.Written.{IsBefore, ArePlacesInOrder}
 
 pub IsBefore-trans : (a b c : Shown) → IsBefore a b → IsBefore b c → IsBefore a c
 IsBefore-trans a b c (inl p) (inl q) = inl (omega arith)
@@ -39,8 +39,8 @@ IsBefore-apart cells ordered i (suc n) d inside =
     (IsBefore-apart cells ordered i n d near)
     (subst (λ k. IsBefore (get_or cells (i + (n + 1)) d) (get_or cells k d)) same (ordered (i + (n + 1)) d far))
 
-pub AreInOrder-from_neighbours : (cells : List Shown) → NeighboursInOrder cells (length cells) → AreInOrder cells
-AreInOrder-from_neighbours cells ordered i j d before inside =
+pub ArePlacesInOrder-from_neighbours : (cells : List Shown) → NeighboursInOrder cells (length cells) → ArePlacesInOrder cells
+ArePlacesInOrder-from_neighbours cells ordered i j d before inside =
     let n : ℕ = j - (i + 1) in
     let same : i + (n + 1) ≡ j = omega arith in
     subst (λ k. IsBefore (get_or cells i d) (get_or cells k d)) same

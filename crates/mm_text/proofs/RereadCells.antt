@@ -13,12 +13,12 @@ use Rattle.mm_text.specs.declared.file_data.Line.{Line}
 use Rattle.mm_text.specs.declared.file_data.Mirror.TheVariants.{Plain}
 use Rattle.mm_text.specs.declared.shown.Shown.{Shown}
 use Rattle.mm_text.specs.declared.reading.sizes.Sizes.{Sizes}
-use Rattle.mm_text.specs.Entries.{entry_of, entries_of, placed, narrow, all_three, is_out}
+use Rattle.mm_text.specs.Entries.{entry_of, entries_of, entry_placed, narrow, all_three, is_out}
 use Rattle.mm_text.specs.Lines.{Text, is_comment, is_skipped, kept_from}
 use Rattle.mm_text.specs.Numerals.{count_of, value_of, in_width}
 use Rattle.mm_text.specs.Outcomes.{Outcome, ◌>>=◌, or_fault}
-use Rattle.mm_text.specs.Sizes.{sizes_of, limited, coordinate_sizes}
-use Rattle.mm_text.specs.Written.{AreWithin, cell_words, value_words, part_lines, banner_words, lines_text, coordinate_text}
+use Rattle.mm_text.specs.Sizes.{sizes_of, sizes_limited, coordinate_sizes}
+use Rattle.mm_text.specs.Written.{ArePlacesWithin, cell_words, value_words, part_lines, banner_words, lines_text, coordinate_text}
 use Rattle.mm_text.specs.WrittenFiles.{entry_of_cell, AreNarrow, file_of_cells, CoordinateTextIsFile}
 use Rattle.mm_text.proofs.Decimals.{is_visible, decimal-visible, count_of-decimal}
 use Rattle.mm_text.proofs.Splitting.{are_visible, words_of-words}
@@ -26,8 +26,8 @@ use Rattle.std.proofs.lemmas.List.{length-map}
 use Rattle.std.proofs.lemmas.List.Folds.{list_all-append}
 use Rattle.std.proofs.lemmas.List.FromFn.{length-enumerate_from}
 use Rattle.mm_text.specs.declared.file_data.Form.TheVariants.{Coordinate}
-use Rattle.mm_text.specs.Reading.{reading, lines_read, sized, body_of}
-use Rattle.mm_text.proofs.Rereading.{joined, value_words-visible, are_entries, kept_from-entries, decimal-entry, in_width-written, limited-within, body_of-entries, reading-lines, length-lines_text}
+use Rattle.mm_text.specs.Reading.{reading, lines_read, file_sized, body_of}
+use Rattle.mm_text.proofs.Rereading.{joined, value_words-visible, are_entries, kept_from-entries, decimal-entry, in_width-written, sizes_limited-within, body_of-entries, reading-lines, length-lines_text}
 
 -- the number of the line after the comment of a part
 abbrev pub after_part : Option ℕ → ℕ
@@ -54,10 +54,10 @@ all_three-is a b c i j v p q r =
 is_out-inside : (size i : ℕ) → i < size → is_out size (i + 1) ≡ false
 is_out-inside size i inside = rw (ne_eqb (i + 1) 0 (λ e. omega (arith, e)), le-ltb size (i + 1) (omega arith)) refl
 
-placed-inside : (s : Sizes) (number : ℕ) (cell : Shown) → cell.row < s.rows → cell.col < s.cols →
-    placed Plain s number (record { row = cell.row + 1; col = cell.col + 1; value = Some cell.value })
+entry_placed-inside : (s : Sizes) (number : ℕ) (cell : Shown) → cell.row < s.rows → cell.col < s.cols →
+    entry_placed Plain s number (record { row = cell.row + 1; col = cell.col + 1; value = Some cell.value })
     ≡ Ok (entry_of_cell cell)
-placed-inside s number cell row col =
+entry_placed-inside s number cell row col =
     let line : ℕ → ℕ → Line = λ i j. record { row = i; col = j; value = cell.value } in
     let found : Outcome Line = Ok (line (cell.row + 1 - 1) (cell.col + 1 - 1)) in
     let out : Outcome Line = Err (OutOfRange number) in
@@ -75,12 +75,12 @@ entry_of-cell : (s : Sizes) (number at : ℕ) (cell : Shown) → s.rows ≤ most
     cell.row < s.rows → cell.col < s.cols → unsigned_abs cell.value ≤ widest →
     entry_of coordinate_banner s number at (cell_words cell) ≡ Ok (entry_of_cell cell)
 entry_of-cell s number at cell rows_fit cols_fit row col value =
-    ap (λ (o : Option Cell). or_fault (BadLine number) o >>= placed Plain s number)
+    ap (λ (o : Option Cell). or_fault (BadLine number) o >>= entry_placed Plain s number)
     (all_three-is (count_of (decimal (cell.row + 1))) (count_of (decimal (cell.col + 1)))
     (option_map in_width (value_of (signed_decimal cell.value))) (cell.row + 1) (cell.col + 1) (Some cell.value)
     (count_of-decimal (cell.row + 1) (omega arith)) (count_of-decimal (cell.col + 1) (omega arith))
     (in_width-written cell.value value))
-    ∙ placed-inside s number cell row col
+    ∙ entry_placed-inside s number cell row col
 
 pub cell_words-visible : (cell : Shown) → list_all is_visible (cell_words cell) ≡ true
 cell_words-visible cell =
@@ -90,7 +90,7 @@ cell_words-visible cell =
     (decimal-visible (cell.col + 1)) (value_words-visible cell.value))
 
 pub entries_of-cells : (s : Sizes) (number at : ℕ) (cells : List Shown) → s.rows ≤ most_rows → s.cols ≤ most_cols →
-    AreWithin s.rows s.cols cells → AreNarrow (map (λ (cell : Shown). cell.value) cells) →
+    ArePlacesWithin s.rows s.cols cells → AreNarrow (map (λ (cell : Shown). cell.value) cells) →
     entries_of coordinate_banner s at (enumerate_from number (joined (map cell_words cells)))
     ≡ Ok (map entry_of_cell cells)
 entries_of-cells s number at [] rows_fit cols_fit within narrow = refl
@@ -129,10 +129,10 @@ sizes_of-coordinate : (room most rows cols count : ℕ) → rows ≤ most → mo
     sizes_of coordinate_banner (profile_of Coordinate room most) (size_words rows cols count)
     ≡ Ok (record { rows = rows; cols = cols; count = count })
 sizes_of-coordinate room most rows cols count rows_fit most_fits cols_fit count_fits count_short =
-    ap (λ (o : Option Sizes). or_fault BadSize o >>= limited Plain (profile_of Coordinate room most))
+    ap (λ (o : Option Sizes). or_fault BadSize o >>= sizes_limited Plain (profile_of Coordinate room most))
     (coordinate_sizes-is (count_of (decimal rows)) (count_of (decimal cols)) (count_of (decimal count)) rows cols count
     (count_of-decimal rows (omega arith)) (count_of-decimal cols (omega arith)) (count_of-decimal count count_short))
-    ∙ limited-within (profile_of Coordinate room most) (record { rows = rows; cols = cols; count = count }) rows_fit cols_fit count_fits
+    ∙ sizes_limited-within (profile_of Coordinate room most) (record { rows = rows; cols = cols; count = count }) rows_fit cols_fit count_fits
 
 cells-visible : (cells : List Shown) → are_visible (map cell_words cells) ≡ true
 cells-visible [] = refl
@@ -140,7 +140,7 @@ cells-visible (cell ∷ cells) =
     and_from (list_all is_visible (cell_words cell)) (are_visible (map cell_words cells)) (cell_words-visible cell)
     (cells-visible cells)
 
-cells-entries : (rows cols : ℕ) (cells : List Shown) → rows ≤ most_rows → AreWithin rows cols cells →
+cells-entries : (rows cols : ℕ) (cells : List Shown) → rows ≤ most_rows → ArePlacesWithin rows cols cells →
     are_entries (map cell_words cells) ≡ true
 cells-entries rows cols [] rows_fit within = refl
 cells-entries rows cols (cell ∷ cells) rows_fit within =
@@ -180,7 +180,7 @@ coordinate_lines-visible rows cols part cells =
 
 lines_read-coordinate : (rows cols room most : ℕ) (part : Option ℕ) (cells : List Shown) →
     rows ≤ most → most ≤ most_rows → cols ≤ most_cols → length cells ≤ room → length cells < 10 ^ 64 →
-    AreWithin rows cols cells → AreNarrow (map (λ (cell : Shown). cell.value) cells) →
+    ArePlacesWithin rows cols cells → AreNarrow (map (λ (cell : Shown). cell.value) cells) →
     lines_read true (profile_of Coordinate room most) (joined (coordinate_lines rows cols part cells))
     ≡ Ok (file_of_cells rows cols cells)
 unfolding coordinate_lines
@@ -190,7 +190,7 @@ lines_read-coordinate rows cols room most part cells rows_fit most_fits cols_fit
     let places : List (List Text) = map cell_words cells in
     let rest : List (ℕ × Text) = enumerate_from (after_part part + 1) (joined places) in
     let rows_low : rows ≤ most_rows = omega arith in
-    ap (sized true (profile_of Coordinate room most) coordinate_banner)
+    ap (file_sized true (profile_of Coordinate room most) coordinate_banner)
     (kept_from-part part (size ∷ places)
     (and_from (list_all is_visible size) (are_visible places) (size_words-visible rows cols (length cells))
     (cells-visible cells))
@@ -219,7 +219,7 @@ length-coordinate_lines rows cols part cells =
 reading-coordinate : (rows cols room most : ℕ) (part : Option ℕ) (cells : List Shown) (text : Text) →
     text ≡ lines_text (coordinate_lines rows cols part cells) → length text ≤ most_bytes →
     rows ≤ most → most ≤ most_rows → cols ≤ most_cols → length cells ≤ room →
-    AreWithin rows cols cells → AreNarrow (map (λ (cell : Shown). cell.value) cells) →
+    ArePlacesWithin rows cols cells → AreNarrow (map (λ (cell : Shown). cell.value) cells) →
     reading (profile_of Coordinate room most) text ≡ Ok (file_of_cells rows cols cells)
 reading-coordinate rows cols room most part cells text made short rows_fit most_fits cols_fit count_fits within narrow =
     let lines : List (List Text) = coordinate_lines rows cols part cells in

@@ -14,7 +14,7 @@ use Rattle.mm_text.specs.Entries.{entry_of, entries_of, narrow}
 use Rattle.mm_text.specs.Lines.{Text, is_comment}
 use Rattle.mm_text.specs.Numerals.{count_of}
 use Rattle.mm_text.specs.Outcomes.{Outcome, ◌>>=◌, or_fault}
-use Rattle.mm_text.specs.Sizes.{sizes_of, limited, array_sizes}
+use Rattle.mm_text.specs.Sizes.{sizes_of, sizes_limited, array_sizes}
 use Rattle.mm_text.specs.Written.{value_words, banner_words, lines_text, array_text}
 use Rattle.mm_text.specs.WrittenFiles.{entry_of_value, AreNarrow, ArrayTextIsFile, file_of_values}
 use Rattle.mm_text.proofs.Decimals.{is_visible, decimal-visible, count_of-decimal}
@@ -22,8 +22,8 @@ use Rattle.mm_text.proofs.Splitting.{are_visible, words_of-words}
 use Rattle.std.proofs.lemmas.List.{length-map}
 use Rattle.std.proofs.lemmas.List.FromFn.{length-enumerate_from}
 use Rattle.mm_text.specs.declared.file_data.Form.TheVariants.{Array}
-use Rattle.mm_text.specs.Reading.{reading, lines_read, sized, body_of}
-use Rattle.mm_text.proofs.Rereading.{joined, value_words-visible, are_entries, kept_from-entries, decimal-entry, in_width-written, limited-within, body_of-entries, reading-lines}
+use Rattle.mm_text.specs.Reading.{reading, lines_read, file_sized, body_of}
+use Rattle.mm_text.proofs.Rereading.{joined, value_words-visible, are_entries, kept_from-entries, decimal-entry, in_width-written, sizes_limited-within, body_of-entries, reading-lines}
 
 abbrev array_banner : Banner
 array_banner = record { kind = Dense; mirror = Plain }
@@ -83,10 +83,10 @@ sizes_of-array : (room most rows cols : ℕ) → rows ≤ most → rows ≤ most
     sizes_of array_banner (profile_of Array room most) (shape_words rows cols)
     ≡ Ok (record { rows = rows; cols = cols; count = rows * cols })
 sizes_of-array room most rows cols rows_most rows_fit cols_fit count_fits =
-    ap (λ (o : Option Sizes). or_fault BadSize o >>= limited Plain (profile_of Array room most))
+    ap (λ (o : Option Sizes). or_fault BadSize o >>= sizes_limited Plain (profile_of Array room most))
     (array_sizes-is (count_of (decimal rows)) (count_of (decimal cols)) rows cols
     (count_of-decimal rows (omega arith)) (count_of-decimal cols (omega arith)))
-    ∙ limited-within (profile_of Array room most) (record { rows = rows; cols = cols; count = rows * cols }) rows_most cols_fit count_fits
+    ∙ sizes_limited-within (profile_of Array room most) (record { rows = rows; cols = cols; count = rows * cols }) rows_most cols_fit count_fits
 
 -- the lines of array text
 pub array_lines : ℕ → ℕ → List ℤ → List (List Text)
@@ -111,7 +111,7 @@ lines_read-array rows cols room most values rows_most rows_fit cols_fit all coun
     let shape : List Text = shape_words rows cols in
     let entries : List (List Text) = map value_words values in
     let rest : List (ℕ × Text) = enumerate_from 3 (joined entries) in
-    ap (sized true (profile_of Array room most) array_banner)
+    ap (file_sized true (profile_of Array room most) array_banner)
     (kept_from-entries 2 (shape ∷ entries)
     (and_from (list_all is_visible shape) (are_visible entries) (shape_words-visible rows cols) (values-visible values))
     (and_from (not (is_comment shape)) (are_entries entries) (decimal-entry rows (decimal cols ∷ []) (omega arith))

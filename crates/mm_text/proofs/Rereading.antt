@@ -15,7 +15,7 @@ use Rattle.mm_text.specs.Entries.{entries_of, narrow}
 use Rattle.mm_text.specs.Lines.{Text, is_comment, is_skipped, kept_from, lines_of}
 use Rattle.mm_text.specs.Numerals.{value_of, in_width}
 use Rattle.mm_text.specs.Outcomes.{Outcome, ◌>>=◌}
-use Rattle.mm_text.specs.Sizes.{limited}
+use Rattle.mm_text.specs.Sizes.{sizes_limited}
 use Rattle.mm_text.specs.Written.{value_words, lines_text, line_text}
 use Rattle.mm_text.proofs.Decimals.{is_visible, signed_decimal-visible, first-decimal, value_of-signed_decimal, in_width-narrow}
 use Rattle.mm_text.proofs.Splitting.{are_visible, words_of-words, lines_of-lines}
@@ -56,9 +56,9 @@ pub in_width-written : (z : ℤ) → unsigned_abs z ≤ widest → option_map in
 in_width-written z narrow =
     ap (option_map in_width) (value_of-signed_decimal z (omega arith)) ∙ ap Some (in_width-narrow z narrow)
 
-pub limited-within : (profile : Profile) (s : Sizes) → s.rows ≤ profile.rows → s.cols ≤ profile.cols → s.count ≤ profile.entries →
-    limited Plain profile s ≡ Ok s
-limited-within profile s rows cols count =
+pub sizes_limited-within : (profile : Profile) (s : Sizes) → s.rows ≤ profile.rows → s.cols ≤ profile.cols → s.count ≤ profile.entries →
+    sizes_limited Plain profile s ≡ Ok s
+sizes_limited-within profile s rows cols count =
     let few : Outcome Sizes = cond (nat_lt profile.entries s.count) (Err TooManyEntries) (Ok s) in
     ap (λ (b : Bool). cond (b || nat_lt profile.cols s.cols) (Err BadSize) few) (le-ltb profile.rows s.rows rows)
     ∙ ap (λ (b : Bool). cond b (Err BadSize) few) (le-ltb profile.cols s.cols cols)

@@ -11,7 +11,7 @@ use Rattle.mm_text.specs.declared.reading.sizes.Sizes.{Sizes}
 use Rattle.mm_text.specs.Cut.{cut, cut_sizes}
 use Rattle.mm_text.specs.Limits.{most_cols, most_rows}
 use Rattle.mm_text.specs.Outcomes.{◌>>=◌, or_fault}
-use Rattle.mm_text.specs.Sizes.{array_sizes, limited}
+use Rattle.mm_text.specs.Sizes.{array_sizes, sizes_limited}
 
 mul_cut_over : (k m n : ℕ) → k < m → min (k * n) k ≡ min (m * n) k
 mul_cut_over k m zero h = ap (λ p. min p k) (mul-zero k ∙ sym (mul-zero m))
@@ -45,13 +45,13 @@ array_cut (Some m) None r c hr hc = absurd (cc)
 
 -- a size that is cut off above the limits is above them as it was
 limited_cut : (m : Mirror) (profile : Profile) (s : Sizes) → profile.rows ≤ most_rows → profile.cols ≤ most_cols →
-    profile.entries < 2 ^ 32 → limited m profile (cut_sizes s) ≡ limited m profile s
+    profile.entries < 2 ^ 32 → sizes_limited m profile (cut_sizes s) ≡ sizes_limited m profile s
 limited_cut m profile s rows cols entries = grind (arith, nat_tests)
 
 pub sizes_cut : (banner : Banner) (profile : Profile) (o : Option Sizes) (s : Sizes) → Some s ≡ option_map cut_sizes o →
     profile.rows ≤ most_rows → profile.cols ≤ most_cols → profile.entries < 2 ^ 32 →
-    limited banner.mirror profile s ≡ (or_fault BadSize o >>= limited banner.mirror profile)
+    sizes_limited banner.mirror profile s ≡ (or_fault BadSize o >>= sizes_limited banner.mirror profile)
 sizes_cut banner profile None s e rows cols entries = absurd (cc)
 sizes_cut banner profile (Some t) s e rows cols entries =
     let same : s ≡ cut_sizes t = cc in
-    ap (limited banner.mirror profile) same ∙ limited_cut banner.mirror profile t rows cols entries
+    ap (sizes_limited banner.mirror profile) same ∙ limited_cut banner.mirror profile t rows cols entries

@@ -20,13 +20,13 @@ use Rattle.mm_text.specs.declared.file_data.Line.{Line}
 use Rattle.mm_text.specs.declared.file_data.Mirror.{Mirror}
 use Rattle.mm_text.specs.declared.file_data.Mirror.TheVariants as mirror
 use Rattle.mm_text.specs.declared.reading.sizes.Sizes.{Sizes}
-use Rattle.mm_text.specs.Banner.{banner_of, field_named, form_named, kind_of, mirror_of, named, object_named, supported, symmetry_named}
+use Rattle.mm_text.specs.Banner.{banner_of, field_named, form_named, kind_of, mirror_of, banner_named, object_named, banner_supported, symmetry_named}
 use Rattle.mm_text.specs.Entries.{entries_of}
 use Rattle.mm_text.specs.Lines.{Text, four_words, two_words, kept_from, lines_of, words_of}
 use Rattle.mm_text.specs.Numerals.{count_of}
 use Rattle.mm_text.specs.Outcomes.{Outcome, at_end, or_fault}
-use Rattle.mm_text.specs.Reading.{File, body_of, complete, entries_in, lines_read, no_more, reading, sized}
-use Rattle.mm_text.specs.Sizes.{announced, array_announced, array_sizes, is_plain, limited, sizes_of}
+use Rattle.mm_text.specs.Reading.{File, body_of, complete, entries_in, lines_read, no_more, reading, file_sized}
+use Rattle.mm_text.specs.Sizes.{sizes_announced, array_sizes_announced, array_sizes, is_plain, sizes_limited, sizes_of}
 use Rattle.mm_text.specs.Sound.{IsSound, KeepsLimits}
 use Rattle.mm_text.proofs.EntrySoundLemmas.{AreEntries, Good, IsEntryBy, entries_good, good_bad, good_cond, good_ok, good_then, good_weaker}
 
@@ -39,7 +39,7 @@ record FitsForm (want : Form) (banner : Banner) : Type 0 where
   dense : want ≡ form.Array → banner.kind ≡ kind.Dense
   plain : banner.kind ≡ kind.Dense → banner.mirror ≡ mirror.Plain
 
-supported_good : (want f : Form) (fd : Field) (s : Symmetry) → Good (FitsForm want) (supported want f fd s)
+supported_good : (want f : Form) (fd : Field) (s : Symmetry) → Good (FitsForm want) (banner_supported want f fd s)
 supported_good form.Coordinate form.Coordinate field.Integer symmetry.General = good_ok (FitsForm form.Coordinate) _ (record { dense = λ e. absurd (cc); plain = λ e. absurd (cc) })
 supported_good form.Coordinate form.Coordinate field.Integer symmetry.Symmetric = good_ok (FitsForm form.Coordinate) _ (record { dense = λ e. absurd (cc); plain = λ e. absurd (cc) })
 supported_good form.Coordinate form.Coordinate field.Integer symmetry.SkewSymmetric = good_ok (FitsForm form.Coordinate) _ (record { dense = λ e. absurd (cc); plain = λ e. absurd (cc) })
@@ -62,7 +62,7 @@ supported_good form.Coordinate form.Array fd s =
 supported_good form.Array form.Coordinate fd s =
     good_then _ (FitsForm form.Array) (kind_of form.Coordinate fd) _ (any_good _) (λ k _. good_then _ (FitsForm form.Array) (mirror_of k s) _ (any_good _) (λ m _. good_bad (FitsForm form.Array) WrongForm))
 
-named_good : (want : Form) (w : Text × Text × Text × Text) → Good (FitsForm want) (named want w)
+named_good : (want : Form) (w : Text × Text × Text × Text) → Good (FitsForm want) (banner_named want w)
 named_good want w =
     good_then _ (FitsForm want) (or_fault BadBanner (object_named w.0)) _ (any_good _) (λ o _.
     good_then _ (FitsForm want) (or_fault BadBanner (form_named w.1)) _ (any_good _) (λ f _.
@@ -73,7 +73,7 @@ named_good want w =
 banner_good : (want : Form) (words : List Text) → Good (FitsForm want) (banner_of want words)
 banner_good want [] = good_bad (FitsForm want) NoBanner
 banner_good want (mark ∷ words) =
-    good_cond (FitsForm want) _ _ _ (λ _. good_then _ (FitsForm want) (or_fault BadBanner (four_words words)) (named want) (any_good _) (λ w _. named_good want w))
+    good_cond (FitsForm want) _ _ _ (λ _. good_then _ (FitsForm want) (or_fault BadBanner (four_words words)) (banner_named want) (any_good _) (λ w _. named_good want w))
     (λ _. good_bad (FitsForm want) NoBanner)
 
 -- sizes within the limits
@@ -94,7 +94,7 @@ squared mirror.Plain x y e h = absurd (h refl)
 squared mirror.Same x y e h = grind (arith, nat_tests)
 squared mirror.Negated x y e h = grind (arith, nat_tests)
 
-limited_good : (m : Mirror) (profile : Profile) (s : Sizes) (P : Sizes → Type 0) → P s → Good (λ t. FitsSizes m profile t × P t) (limited m profile s)
+limited_good : (m : Mirror) (profile : Profile) (s : Sizes) (P : Sizes → Type 0) → P s → Good (λ t. FitsSizes m profile t × P t) (sizes_limited m profile s)
 limited_good m profile s P p =
     good_cond (λ t. FitsSizes m profile t × P t) (ltb profile.rows s.rows || ltb profile.cols s.cols) _ _ (λ _. good_bad (λ t. FitsSizes m profile t × P t) BadSize) (λ a.
     good_cond (λ t. FitsSizes m profile t × P t) (not (is_plain m) && not (eqb s.rows s.cols)) _ _ (λ _. good_bad (λ t. FitsSizes m profile t × P t) NotSquare) (λ b.
@@ -130,10 +130,10 @@ other_places : (k : Kind) (o : Option Sizes) → k ≢ kind.Dense → IfSome o (
 other_places k (Some s) h = λ e. absurd (h e)
 other_places k None h = tt
 
-announced_places : (k : Kind) (words : List Text) → IfSome (announced k words) (AllPlaces k)
-announced_places kind.Dense words = dense_places (array_announced words) (then_places (two_words words))
-announced_places kind.Valued words = other_places kind.Valued (announced kind.Valued words) (λ e. cc)
-announced_places kind.Pattern words = other_places kind.Pattern (announced kind.Pattern words) (λ e. cc)
+announced_places : (k : Kind) (words : List Text) → IfSome (sizes_announced k words) (AllPlaces k)
+announced_places kind.Dense words = dense_places (array_sizes_announced words) (then_places (two_words words))
+announced_places kind.Valued words = other_places kind.Valued (sizes_announced kind.Valued words) (λ e. cc)
+announced_places kind.Pattern words = other_places kind.Pattern (sizes_announced kind.Pattern words) (λ e. cc)
 
 or_places : (k : Kind) (o : Option Sizes) → IfSome o (AllPlaces k) → Good (AllPlaces k) (or_fault BadSize o)
 or_places k (Some s) h = good_ok (AllPlaces k) s h
@@ -146,9 +146,9 @@ pub record AreSizes (banner : Banner) (profile : Profile) (s : Sizes) : Type 0 w
 
 pub sizes_good : (banner : Banner) (profile : Profile) (words : List Text) → Good (AreSizes banner profile) (sizes_of banner profile words)
 sizes_good banner profile words =
-    good_then (AllPlaces banner.kind) (AreSizes banner profile) (or_fault BadSize (announced banner.kind words)) _
-    (or_places banner.kind (announced banner.kind words) (announced_places banner.kind words)) (λ s p.
-    good_weaker _ (AreSizes banner profile) (limited banner.mirror profile s) (λ t h. record { fits = h.0; places = h.1 })
+    good_then (AllPlaces banner.kind) (AreSizes banner profile) (or_fault BadSize (sizes_announced banner.kind words)) _
+    (or_places banner.kind (sizes_announced banner.kind words) (announced_places banner.kind words)) (λ s p.
+    good_weaker _ (AreSizes banner profile) (sizes_limited banner.mirror profile s) (λ t h. record { fits = h.0; places = h.1 })
     (limited_good banner.mirror profile s (AllPlaces banner.kind) p))
 
 at_end_good : {A : Type 0} (P : A → Type 0) (whole : Bool) (r : Outcome A) → Good P r → Good P (at_end whole r)
@@ -259,7 +259,7 @@ body_good profile whole banner s lines form' sizes =
     good_ok (IsKept profile) (file_with banner s entries) (sound_of profile banner s entries form' sizes all))
 
 sized_good : (profile : Profile) (whole : Bool) (banner : Banner) (lines : List (ℕ × Text)) → FitsForm profile.form banner
-    → Good (IsKept profile) (sized whole profile banner lines)
+    → Good (IsKept profile) (file_sized whole profile banner lines)
 sized_good profile whole banner [] form' = at_end_good (IsKept profile) whole _ (good_bad (IsKept profile) BadSize)
 sized_good profile whole banner (line ∷ lines) form' =
     good_then (AreSizes banner profile) (IsKept profile) (sizes_of banner profile (words_of line.1)) _ (sizes_good banner profile (words_of line.1)) (λ s sizes.

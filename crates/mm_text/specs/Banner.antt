@@ -63,22 +63,22 @@ same_form form.Coordinate form.Coordinate = true
 same_form form.Array form.Array = true
 same_form _ _ = false
 
-abbrev pub supported : Form → Form → Field → Symmetry → Outcome Banner
-supported want f fd s = do
+abbrev pub banner_supported : Form → Form → Field → Symmetry → Outcome Banner
+banner_supported want f fd s = do
   k ← kind_of f fd
   m ← mirror_of k s
   if same_form want f then Ok (record { kind = k; mirror = m }) else Err WrongForm
 
 -- the object, the form, the field and the symmetry
-abbrev pub named : Form → Text × Text × Text × Text → Outcome Banner
-named want words = do
+abbrev pub banner_named : Form → Text × Text × Text × Text → Outcome Banner
+banner_named want words = do
   object ← or_fault BadBanner (object_named words.0)
   f ← or_fault BadBanner (form_named words.1)
   fd ← or_fault BadBanner (field_named words.2)
   s ← or_fault BadBanner (symmetry_named words.3)
-  supported want f fd s
+  banner_supported want f fd s
 
 abbrev pub banner_of : Form → List Text → Outcome Banner
 banner_of want [] = Err NoBanner
 banner_of want (mark ∷ words) =
-    if bytes_eq mark (codes "%%MatrixMarket") then (or_fault BadBanner (four_words words) >>= named want) else Err NoBanner
+    if bytes_eq mark (codes "%%MatrixMarket") then (or_fault BadBanner (four_words words) >>= banner_named want) else Err NoBanner

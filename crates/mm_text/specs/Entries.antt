@@ -28,8 +28,8 @@ abbrev pub is_out : ℕ → ℕ → Bool
 is_out size i = (i == 0) || nat_lt size i
 
 -- an entry at a place that is counted from 1
-abbrev pub placed : Mirror → Sizes → ℕ → Cell → Outcome Line
-placed m s number cell =
+abbrev pub entry_placed : Mirror → Sizes → ℕ → Cell → Outcome Line
+entry_placed m s number cell =
     if is_out s.rows cell.row || is_out s.cols cell.col then Err (OutOfRange number)
     else (if is_negated m && (cell.row == cell.col) then Err (SkewDiagonal number)
     else narrow number (cell.row - 1) (cell.col - 1) cell.value)
@@ -53,18 +53,18 @@ abbrev pub dense_value : List Text → Option (Option ℤ)
 dense_value words = option_and_then (λ w. option_map in_width (value_of w)) (one_word words)
 
 -- the entry of a place that may be missing
-abbrev pub placed_or_bad : Mirror → Sizes → ℕ → Option Cell → Outcome Line
-placed_or_bad m s number cell = or_fault (BadLine number) cell >>= placed m s number
+abbrev pub entry_of_cell : Mirror → Sizes → ℕ → Option Cell → Outcome Line
+entry_of_cell m s number cell = or_fault (BadLine number) cell >>= entry_placed m s number
 
 -- the entry of a value that may be missing; the values of an array come column by column
-abbrev pub dense_or_bad : Sizes → ℕ → ℕ → Option (Option ℤ) → Outcome Line
-dense_or_bad s number at value = or_fault (BadLine number) value >>= narrow number (at % s.rows) (at / s.rows)
+abbrev pub entry_of_number : Sizes → ℕ → ℕ → Option (Option ℤ) → Outcome Line
+entry_of_number s number at value = or_fault (BadLine number) value >>= narrow number (at % s.rows) (at / s.rows)
 
 -- the entry of a line with this number, where `at` entries stand before it
 abbrev pub entry_by : Kind → Mirror → Sizes → ℕ → ℕ → List Text → Outcome Line
-entry_by kind.Valued m s number at words = placed_or_bad m s number (valued_cell words)
-entry_by kind.Pattern m s number at words = placed_or_bad m s number (pattern_cell words)
-entry_by kind.Dense m s number at words = dense_or_bad s number at (dense_value words)
+entry_by kind.Valued m s number at words = entry_of_cell m s number (valued_cell words)
+entry_by kind.Pattern m s number at words = entry_of_cell m s number (pattern_cell words)
+entry_by kind.Dense m s number at words = entry_of_number s number at (dense_value words)
 
 abbrev pub entry_of : Banner → Sizes → ℕ → ℕ → List Text → Outcome Line
 entry_of banner s number at words = entry_by banner.kind banner.mirror s number at words

@@ -1,70 +1,19 @@
--- The lines of a text, and their words.
-use Rattle.std.specs.Prelude.{◌==◌, ◌||◌, ◌-◌, ℕ, Bool, true, false, List, [], ◌∷◌, Option, Some, None, length, take, not, filter, if◌then◌else◌, slice_index}
-use Rattle.std.specs.List.{slice_split, enumerate_from}
+-- The lines of a text and their words, where a comment begins with a percent sign.
+use Rattle.std.specs.Prelude.{ℕ, Bool, List}
+pub use Rattle.text_lines.specs.Lines.{Text, onto_line, is_newline, lines_of, is_blank, without_return, is_word, words_in, words_of, one_word, two_words, three_words, four_words}
+use Rattle.text_lines.specs.Lines.{is_comment as is_marked_comment, is_skipped as is_marked_skipped, kept_from as kept_from_marked}
 
--- bytes
-abbrev pub Text : Type 0
-Text = List ℕ
-
--- a byte before the first line; where no line follows, it is a line alone if the text ends there
-abbrev pub onto_line : Bool → ℕ → List Text → List Text
-onto_line whole byte (line ∷ lines) = (byte ∷ line) ∷ lines
-onto_line true byte [] = (byte ∷ []) ∷ []
-onto_line false byte [] = []
-
-abbrev pub is_newline : ℕ → Bool
-is_newline byte = byte == 10
-
--- the lines of a text: each ends at a newline, and the last line of a whole text may end with the text
-abbrev pub lines_of : Bool → Text → List Text
-lines_of whole [] = []
-lines_of whole (byte ∷ bytes) =
-    if is_newline byte then [] ∷ lines_of whole bytes else onto_line whole byte (lines_of whole bytes)
-
--- a space or a tab
-abbrev pub is_blank : ℕ → Bool
-is_blank byte = (byte == 32) || (byte == 9)
-
--- a line without the one carriage return right before its end
-abbrev pub without_return : Text → Text
-without_return line = if slice_index line (length line - 1) == 13 then take (length line - 1) line else line
-
-abbrev pub is_word : Text → Bool
-is_word [] = false
-is_word (byte ∷ bytes) = true
-
--- the longest runs of bytes that are no blanks
-abbrev pub words_in : Text → List Text
-words_in line = filter is_word (slice_split is_blank line)
-
-abbrev pub words_of : Text → List Text
-words_of line = words_in (without_return line)
+-- the percent sign
+abbrev pub mark : ℕ
+mark = 37
 
 -- no words, or a percent sign first
 abbrev pub is_comment : List Text → Bool
-is_comment [] = true
-is_comment (word ∷ words) = slice_index word 0 == 37
+is_comment words = is_marked_comment mark words
 
 abbrev pub is_skipped : Text → Bool
-is_skipped line = is_comment (words_of line)
+is_skipped line = is_marked_skipped mark line
 
 -- the lines that are not skipped, each with its number; the first line has the number `first`
 abbrev pub kept_from : ℕ → List Text → List (ℕ × Text)
-kept_from first lines = filter (λ line. not (is_skipped line.1)) (enumerate_from first lines)
-
--- the words of a line that has one, two, three or four
-abbrev pub one_word : List Text → Option Text
-one_word (a ∷ []) = Some a
-one_word _ = None
-
-abbrev pub two_words : List Text → Option (Text × Text)
-two_words (a ∷ b ∷ []) = Some (a, b)
-two_words _ = None
-
-abbrev pub three_words : List Text → Option (Text × Text × Text)
-three_words (a ∷ b ∷ c ∷ []) = Some (a, b, c)
-three_words _ = None
-
-abbrev pub four_words : List Text → Option (Text × Text × Text × Text)
-four_words (a ∷ b ∷ c ∷ d ∷ []) = Some (a, b, c, d)
-four_words _ = None
+kept_from first lines = kept_from_marked mark first lines

@@ -1,13 +1,9 @@
 -- Counts and values in decimal digits.
-use Rattle.std.specs.Prelude.{◌&&◌, ℕ, ℤ, pos, neg_ℤ, Option, Some, None, nat_lt, option_map, unsigned_abs, if◌then◌else◌}
-use Rattle.std.specs.Str.{all_ascii_digits}
-use Rattle.std.specs.Str.Parse.{digits_value, starts_with_minus, without_leading_plus, without_leading_sign}
+use Rattle.std.specs.Prelude.{ℕ, ℤ, pos, neg_ℤ, Option, Some, None, nat_lt, option_map, unsigned_abs, if◌then◌else◌}
+use Rattle.std.specs.Str.Parse.{starts_with_minus, without_leading_plus, without_leading_sign}
 use Rattle.mm_text.specs.Limits.{widest}
-use Rattle.mm_text.specs.Lines.{Text, is_word}
-
--- one or more decimal digits
-abbrev pub digits_of : Text → Option ℕ
-digits_of word = if is_word word && all_ascii_digits word then Some (digits_value 10 word) else None
+use Rattle.mm_text.specs.Lines.{Text}
+pub use Rattle.text_lines.specs.Numerals.{digits_of}
 
 -- digits behind a plus or nothing
 abbrev pub count_of : Text → Option ℕ

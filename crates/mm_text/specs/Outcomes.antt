@@ -1,7 +1,7 @@
 -- Answers that may be a fault.
 use Rattle.std.specs.Prelude.{◌≡◌, ◌⊎◌, Bool, Option, Some, None, Result, Ok, Err, if◌then◌else◌}
 use Rattle.mm_text.specs.declared.fault.MmFault.{MmFault}
-use Rattle.mm_text.specs.declared.fault.MmFault.TheVariants.{ReadFault, NoMem, TooLong}
+use Rattle.mm_text.specs.declared.fault.MmFault.TheVariants.{ReadFault, NoBanner, BadBanner, UnsupportedField, UnsupportedSymmetry, WrongForm, BadSize, BadLine, OutOfRange, NotSquare, SkewDiagonal, TooFew, Extra, NumberTooWide, TooManyEntries, TooLong, NoMem}
 
 abbrev pub Outcome : Type 0 → Type 0
 Outcome A = Result A MmFault
@@ -30,4 +30,18 @@ Gives view (Err fault) outcome = (fault ≡ NoMem) ⊎ (outcome ≡ Err fault)
 abbrev pub IsTextFault : MmFault → Type 0
 IsTextFault ReadFault = ⊥
 IsTextFault NoMem = ⊥
-IsTextFault _ = Unit {0}
+IsTextFault NoBanner = Unit {0}
+IsTextFault BadBanner = Unit {0}
+IsTextFault UnsupportedField = Unit {0}
+IsTextFault UnsupportedSymmetry = Unit {0}
+IsTextFault WrongForm = Unit {0}
+IsTextFault BadSize = Unit {0}
+IsTextFault (BadLine line) = Unit {0}
+IsTextFault (OutOfRange line) = Unit {0}
+IsTextFault NotSquare = Unit {0}
+IsTextFault (SkewDiagonal line) = Unit {0}
+IsTextFault (TooFew have) = Unit {0}
+IsTextFault (Extra line) = Unit {0}
+IsTextFault (NumberTooWide line) = Unit {0}
+IsTextFault TooManyEntries = Unit {0}
+IsTextFault TooLong = Unit {0}

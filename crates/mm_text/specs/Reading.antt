@@ -47,9 +47,9 @@ body_of whole banner s lines = do
   Ok (record { rows = s.rows; cols = s.cols; mirror = banner.mirror; lines = entries })
 
 -- the file of a banner and of the lines after it that are not skipped
-abbrev pub sized : Bool → Profile → Banner → List (ℕ × Text) → Outcome File
-sized whole profile banner [] = at_end whole (Err BadSize)
-sized whole profile banner (line ∷ lines) = do
+abbrev pub file_sized : Bool → Profile → Banner → List (ℕ × Text) → Outcome File
+file_sized whole profile banner [] = at_end whole (Err BadSize)
+file_sized whole profile banner (line ∷ lines) = do
   s ← sizes_of banner profile (words_of line.1)
   body_of whole banner s lines
 
@@ -58,7 +58,7 @@ abbrev pub lines_read : Bool → Profile → List Text → Outcome File
 lines_read whole profile [] = at_end whole (Err NoBanner)
 lines_read whole profile (first ∷ lines) = do
   banner ← banner_of profile.form (words_of first)
-  sized whole profile banner (kept_from 2 lines)
+  file_sized whole profile banner (kept_from 2 lines)
 
 -- the file of a text, or its first fault in file order; of a text that is too long, those lines are read that end
 -- within the most bytes

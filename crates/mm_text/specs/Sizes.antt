@@ -21,31 +21,31 @@ coordinate_sizes (Some m) (Some n) (Some l) = Some (record { rows = m; cols = n;
 coordinate_sizes _ _ _ = None
 
 -- the size line of an array has rows and columns, and its entries are those of all places
-abbrev pub array_announced : List Text → Option Sizes
-array_announced words = option_and_then (λ w. array_sizes (count_of w.0) (count_of w.1)) (two_words words)
+abbrev pub array_sizes_announced : List Text → Option Sizes
+array_sizes_announced words = option_and_then (λ w. array_sizes (count_of w.0) (count_of w.1)) (two_words words)
 
 -- else it has rows, columns and the number of entries
-abbrev pub coordinate_announced : List Text → Option Sizes
-coordinate_announced words =
+abbrev pub coordinate_sizes_announced : List Text → Option Sizes
+coordinate_sizes_announced words =
     option_and_then (λ w. coordinate_sizes (count_of w.0) (count_of w.1) (count_of w.2)) (three_words words)
 
-abbrev pub announced : Kind → List Text → Option Sizes
-announced kind.Dense words = array_announced words
-announced kind.Valued words = coordinate_announced words
-announced kind.Pattern words = coordinate_announced words
+abbrev pub sizes_announced : Kind → List Text → Option Sizes
+sizes_announced kind.Dense words = array_sizes_announced words
+sizes_announced kind.Valued words = coordinate_sizes_announced words
+sizes_announced kind.Pattern words = coordinate_sizes_announced words
 
 abbrev pub is_plain : Mirror → Bool
 is_plain mirror.Plain = true
 is_plain _ = false
 
 -- within the limits, and square where the file has a symmetry
-abbrev pub limited : Mirror → Profile → Sizes → Outcome Sizes
-limited m profile s =
+abbrev pub sizes_limited : Mirror → Profile → Sizes → Outcome Sizes
+sizes_limited m profile s =
     if nat_lt profile.rows s.rows || nat_lt profile.cols s.cols then Err BadSize
     else (if not (is_plain m) && not (s.rows == s.cols) then Err NotSquare
     else (if nat_lt profile.entries s.count then Err TooManyEntries else Ok s))
 
 abbrev pub sizes_of : Banner → Profile → List Text → Outcome Sizes
 sizes_of banner profile words = do
-  s ← or_fault BadSize (announced banner.kind words)
-  limited banner.mirror profile s
+  s ← or_fault BadSize (sizes_announced banner.kind words)
+  sizes_limited banner.mirror profile s

@@ -54,9 +54,9 @@ abbrev pub IsBefore : Shown → Shown → Type 0
 IsBefore a b = (a.row < b.row) ⊎ ((a.row ≡ b.row) × (a.col < b.col))
 
 -- the places lie within the sizes
-abbrev pub AreWithin : ℕ → ℕ → List Shown → Type 0
-AreWithin rows cols cells = All (λ cell. (cell.row < rows) × (cell.col < cols)) cells
+abbrev pub ArePlacesWithin : ℕ → ℕ → List Shown → Type 0
+ArePlacesWithin rows cols cells = All (λ cell. (cell.row < rows) × (cell.col < cols)) cells
 
 -- the places are in ascending order, each of them once
-abbrev pub AreInOrder : List Shown → Type 0
-AreInOrder cells = AllPairs IsBefore cells
+abbrev pub ArePlacesInOrder : List Shown → Type 0
+ArePlacesInOrder cells = AllPairs IsBefore cells

@@ -7,7 +7,7 @@ use Rattle.mm_text.specs.declared.file_data.Line.{Line}
 use Rattle.mm_text.specs.declared.file_data.Mirror.TheVariants.{Plain}
 use Rattle.mm_text.specs.declared.shown.Shown.{Shown}
 use Rattle.mm_text.specs.Reading.{File, IsFile}
-use Rattle.mm_text.specs.Written.{AreWithin, coordinate_text, array_text}
+use Rattle.mm_text.specs.Written.{ArePlacesWithin, coordinate_text, array_text}
 
 -- a place as the entry of a file
 abbrev pub entry_of_cell : Shown → Line
@@ -35,7 +35,7 @@ abbrev pub CoordinateTextIsFile : Type 0
 CoordinateTextIsFile =
     (rows cols room most : ℕ) (part : Option ℕ) (cells : List Shown)
     → rows ≤ most → most ≤ most_rows → cols ≤ most_cols → length cells ≤ room
-    → AreWithin rows cols cells → AreNarrow (map (λ cell. cell.value) cells)
+    → ArePlacesWithin rows cols cells → AreNarrow (map (λ cell. cell.value) cells)
     → length (coordinate_text rows cols part cells) ≤ most_bytes
     → IsFile (profile_of Coordinate room most) (coordinate_text rows cols part cells) (file_of_cells rows cols cells)
 

@@ -3,7 +3,8 @@
 //!
 //! What a text is read as, its file or its first fault, is the definition `reading` in specs/; the reader answers it. What
 //! the writers write is read again as the same entries. Rows and columns are counted from 1 in a text and from 0 in
-//! values. The crate stands on `outside`; `model_defs`, `gathered_rows` and `tpx` stand on it.
+//! values. The crate stands on `outside` and on
+//! `text_lines`; `model_defs`, `gathered_rows` and `tpx` stand on it.
 //!
 //! ```
 //! let found = read_matrix(alloc, &mut files, "a.mtx", Form::Coordinate, 8_388_608, 16_777_216)?;

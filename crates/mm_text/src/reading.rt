@@ -2,11 +2,9 @@
 
 mod banner;
 mod entries;
-mod lines;
 pub(crate) mod matrix;
 mod numerals;
 mod sizes;
 #[cfg(test)]
 mod tests;
 mod text;
-mod words;

@@ -11,8 +11,8 @@ use Rattle.tables.specs.Tables.{Table, cells_of, stands_before, AreInOrder}
 use Rattle.tables.proofs.Listed.{AreInOrder-cells_of}
 use Rattle.tables.proofs.Within.{AreWithin-cells_of}
 use Rattle.tables.proofs.Orders.{before-to}
-use Rattle.mm_text.specs.Written.{IsBefore, AreWithin}
-use Rattle.mm_text.specs.Written.{AreInOrder as AreAscending}
+use Rattle.mm_text.specs.Written.{IsBefore, ArePlacesWithin as AreWithin}
+use Rattle.mm_text.specs.Written.{ArePlacesInOrder as AreAscending}
 use Rattle.model_defs.specs.ShowText.{shown_cell}
 
 module _ {S : Type 0} (F : Conversions S) where

@@ -1,12 +1,12 @@
 //! The banner: line 1 of a file.
 ghost use Rattle.std.specs.Prelude.{◌≡◌, map, bytes_eq};
 ghost use Rattle.std.specs.Char.{to_ascii_lowercase};
-ghost use Rattle.mm_text.specs.Banner.{banner_of, field_named, form_named, is_named, kind_of, mirror_of, named, object_named, same_form, supported, symmetry_named};
+ghost use Rattle.mm_text.specs.Banner.{banner_of, field_named, form_named, is_named, kind_of, mirror_of, banner_named, object_named, same_form, banner_supported, symmetry_named};
 ghost use Rattle.mm_text.specs.Lines.{words_in, words_of};
 ghost use Rattle.mm_text.specs.Outcomes.{or_fault};
 
-use crate::reading::words::{four_words, next_word, without_return};
 use crate::{Form, Mirror, MmFault};
+use text_lines::{four_words, next_word, without_return};
 
 /// The field of a banner.
 #[derive(Clone, Copy, PartialEq, Eq)]
@@ -132,8 +132,13 @@ fn same_form(want: Form, form: Form) -> bool
 }
 
 /// The banner of this form, field and symmetry.
-fn supported(want: Form, form: Form, field: Field, symmetry: Symmetry) -> Result<Banner, MmFault>
-    ensures { result ≡ supported want form field symmetry }
+fn banner_supported(
+    want: Form,
+    form: Form,
+    field: Field,
+    symmetry: Symmetry,
+) -> Result<Banner, MmFault>
+    ensures { result ≡ banner_supported want form field symmetry }
 {
     let kind = kind_of(form, field)?;
     let mirror = mirror_of(kind, symmetry)?;
@@ -145,14 +150,14 @@ fn supported(want: Form, form: Form, field: Field, symmetry: Symmetry) -> Result
 }
 
 /// The banner of the four words after the first.
-fn named(
+fn banner_named(
     want: Form,
     object: &[u8],
     form: &[u8],
     field: &[u8],
     symmetry: &[u8],
 ) -> Result<Banner, MmFault>
-    ensures { result ≡ named want (object.now, form.now, field.now, symmetry.now) }
+    ensures { result ≡ banner_named want (object.now, form.now, field.now, symmetry.now) }
 {
     if !is_named("matrix", object) {
         return Err(MmFault::BadBanner);
@@ -162,7 +167,7 @@ fn named(
         field_named(field),
         symmetry_named(symmetry),
     ) {
-        (Some(form), Some(field), Some(symmetry)) => supported(want, form, field, symmetry),
+        (Some(form), Some(field), Some(symmetry)) => banner_supported(want, form, field, symmetry),
         _ => Err(MmFault::BadBanner),
     }
 }
@@ -180,7 +185,7 @@ pub fn read_banner(want: Form, line: &[u8]) -> Result<Banner, MmFault>
             match four_words(rest) {
                 None => Err(MmFault::BadBanner),
                 Some((object, form, field, symmetry)) => {
-                    named(want, object, form, field, symmetry)
+                    banner_named(want, object, form, field, symmetry)
                 }
             }
         }

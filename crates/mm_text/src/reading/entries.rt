@@ -1,15 +1,15 @@
 //! The entry lines.
 ghost use Rattle.std.specs.Prelude.{◌≡◌, ◌*◌, ◌<◌, ◌≤◌, option_map};
 ghost use Rattle.mm_text.specs.Cut.{cut_cell};
-ghost use Rattle.mm_text.specs.Entries.{dense_or_bad, dense_value, entry_of, is_negated, is_out, narrow, pattern_cell, placed, placed_or_bad, valued_cell};
+ghost use Rattle.mm_text.specs.Entries.{entry_of_number, dense_value, entry_of, is_negated, is_out, narrow, pattern_cell, entry_placed, entry_of_cell, valued_cell};
 ghost use Rattle.mm_text.specs.Limits.{most_rows};
 ghost use Rattle.mm_text.specs.Lines.{words_in, words_of};
 
 use crate::reading::banner::{Banner, Kind};
 use crate::reading::numerals::{count, value};
 use crate::reading::sizes::Sizes;
-use crate::reading::words::{one_word, three_words, two_words, without_return};
 use crate::{Line, Mirror, MmFault};
+use text_lines::{one_word, three_words, two_words, without_return};
 
 /// A row and a column, counted from 1, and the value where it is not too wide.
 #[derive(Clone, Copy)]
@@ -48,8 +48,8 @@ fn is_out(size: u64, place: u64) -> bool
 }
 
 /// The entry at a place that is counted from 1.
-fn placed(mirror: Mirror, sizes: Sizes, number: u32, cell: Cell) -> Result<Line, MmFault>
-    ensures { result ≡ placed mirror sizes number cell }
+fn entry_placed(mirror: Mirror, sizes: Sizes, number: u32, cell: Cell) -> Result<Line, MmFault>
+    ensures { result ≡ entry_placed mirror sizes number cell }
 {
     if is_out(sizes.rows, cell.row) || is_out(sizes.cols, cell.col) {
         return Err(MmFault::OutOfRange { line: number });
@@ -92,29 +92,29 @@ fn dense_value(bytes: &[u8]) -> Option<Option<i128>>
 }
 
 /// The entry of a place that may be missing.
-fn placed_or_bad(
+fn entry_of_cell(
     mirror: Mirror,
     sizes: Sizes,
     number: u32,
     cell: Option<Cell>,
 ) -> Result<Line, MmFault>
-    ensures { result ≡ placed_or_bad mirror sizes number cell }
+    ensures { result ≡ entry_of_cell mirror sizes number cell }
 {
     match cell {
-        Some(cell) => placed(mirror, sizes, number, cell),
+        Some(cell) => entry_placed(mirror, sizes, number, cell),
         None => Err(MmFault::BadLine { line: number }),
     }
 }
 
 /// The entry of an array, where `at` entries stand before it.
-fn dense_or_bad(
+fn entry_of_number(
     sizes: Sizes,
     number: u32,
     at: u64,
     value: Option<Option<i128>>,
 ) -> Result<Line, MmFault>
     requires { at < sizes.rows * sizes.cols }
-    ensures { result ≡ dense_or_bad sizes number at value }
+    ensures { result ≡ entry_of_number sizes number at value }
 {
     match value {
         Some(value) => narrow(number, at % sizes.rows, at / sizes.rows, value),
@@ -137,8 +137,8 @@ pub fn read_entry(
 {
     let bytes = without_return(line);
     match banner.kind {
-        Kind::Valued => placed_or_bad(banner.mirror, sizes, number, valued_cell(bytes)),
-        Kind::Pattern => placed_or_bad(banner.mirror, sizes, number, pattern_cell(bytes)),
-        Kind::Dense => dense_or_bad(sizes, number, at, dense_value(bytes)),
+        Kind::Valued => entry_of_cell(banner.mirror, sizes, number, valued_cell(bytes)),
+        Kind::Pattern => entry_of_cell(banner.mirror, sizes, number, pattern_cell(bytes)),
+        Kind::Dense => entry_of_number(sizes, number, at, dense_value(bytes)),
     }
 }

@@ -5,25 +5,7 @@ ghost use Rattle.std.specs.Str.Parse.{digits_value, starts_with_minus, without_l
 ghost use Rattle.mm_text.specs.Numerals.{count_of, digits_of, in_width, value_of};
 
 use crate::profile::WIDEST;
-
-/// The number of decimal digits, or `u64::MAX` where it is greater.
-fn digits(word: &[u8]) -> Option<u64>
-    ensures { result ≡ option_map (λ n. min n (2 ^ 64 - 1)) (digits_of word.now) }
-{
-    if word.is_empty() {
-        return None;
-    }
-    let mut number = 0u64;
-    for byte in word {
-        if !byte.is_ascii_digit() {
-            return None;
-        }
-        number = number
-            .saturating_mul(10)
-            .saturating_add(u64::from(*byte - b'0'));
-    }
-    Some(number)
-}
+use text_lines::digits;
 
 /// The number of decimal digits, or `u128::MAX` where it is greater.
 fn wide_digits(word: &[u8]) -> u128
@@ -89,7 +71,7 @@ fn without_sign(word: &[u8]) -> &[u8]
 }
 
 /// The value of a sign and a magnitude, where it is not too wide.
-fn signed(negative: bool, magnitude: u128) -> Option<i128>
+fn signed_value(negative: bool, magnitude: u128) -> Option<i128>
     ensures { result ≡ in_width (if negative then neg_ℤ (pos magnitude) else pos magnitude) }
 {
     if magnitude > WIDEST {
@@ -104,5 +86,5 @@ pub fn value(word: &[u8]) -> Option<Option<i128>>
     ensures { result ≡ option_map in_width (value_of word.now) }
 {
     let magnitude = magnitude(without_sign(word))?;
-    Some(signed(is_negative(word), magnitude))
+    Some(signed_value(is_negative(word), magnitude))
 }

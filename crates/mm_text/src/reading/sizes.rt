@@ -2,14 +2,14 @@
 ghost use Rattle.std.specs.Prelude.{◌≡◌, ◌≤◌, ◌*◌, IfOk, option_map};
 ghost use Rattle.mm_text.specs.Limits.{IsReadable};
 ghost use Rattle.mm_text.specs.Lines.{words_in, words_of};
-ghost use Rattle.mm_text.specs.Sizes.{announced, array_announced, coordinate_announced, is_plain, limited, sizes_of};
+ghost use Rattle.mm_text.specs.Sizes.{sizes_announced, array_sizes_announced, coordinate_sizes_announced, is_plain, sizes_limited, sizes_of};
 ghost use Rattle.mm_text.specs.Cut.{cut_sizes};
 
 use crate::profile::Profile;
 use crate::reading::banner::{Banner, Kind};
 use crate::reading::numerals::count;
-use crate::reading::words::{three_words, two_words, without_return};
 use crate::{Mirror, MmFault};
+use text_lines::{three_words, two_words, without_return};
 
 /// Rows, columns, and the number of entries.
 #[derive(Clone, Copy, PartialEq, Eq)]
@@ -20,8 +20,8 @@ pub struct Sizes {
 }
 
 /// The sizes of an array, each at most `u64::MAX`.
-fn array_announced(bytes: &[u8]) -> Option<Sizes>
-    ensures { result ≡ option_map cut_sizes (array_announced (words_in bytes.now)) }
+fn array_sizes_announced(bytes: &[u8]) -> Option<Sizes>
+    ensures { result ≡ option_map cut_sizes (array_sizes_announced (words_in bytes.now)) }
 {
     let (rows, cols) = two_words(bytes)?;
     let rows = count(rows)?;
@@ -34,8 +34,8 @@ fn array_announced(bytes: &[u8]) -> Option<Sizes>
 }
 
 /// The sizes and the number of entries, each at most `u64::MAX`.
-fn coordinate_announced(bytes: &[u8]) -> Option<Sizes>
-    ensures { result ≡ option_map cut_sizes (coordinate_announced (words_in bytes.now)) }
+fn coordinate_sizes_announced(bytes: &[u8]) -> Option<Sizes>
+    ensures { result ≡ option_map cut_sizes (coordinate_sizes_announced (words_in bytes.now)) }
 {
     let (rows, cols, entries) = three_words(bytes)?;
     Some(Sizes {
@@ -46,13 +46,13 @@ fn coordinate_announced(bytes: &[u8]) -> Option<Sizes>
 }
 
 /// The sizes that are announced, each at most `u64::MAX`.
-fn announced(kind: Kind, bytes: &[u8]) -> Option<Sizes>
-    ensures { result ≡ option_map cut_sizes (announced kind (words_in bytes.now)) }
+fn sizes_announced(kind: Kind, bytes: &[u8]) -> Option<Sizes>
+    ensures { result ≡ option_map cut_sizes (sizes_announced kind (words_in bytes.now)) }
 {
     match kind {
-        Kind::Dense => array_announced(bytes),
-        Kind::Valued => coordinate_announced(bytes),
-        Kind::Pattern => coordinate_announced(bytes),
+        Kind::Dense => array_sizes_announced(bytes),
+        Kind::Valued => coordinate_sizes_announced(bytes),
+        Kind::Pattern => coordinate_sizes_announced(bytes),
     }
 }
 
@@ -68,8 +68,8 @@ fn is_plain(mirror: Mirror) -> bool
 }
 
 /// The sizes, where they keep the limits.
-fn limited(mirror: Mirror, profile: Profile, sizes: Sizes) -> Result<Sizes, MmFault>
-    ensures { result ≡ limited mirror profile sizes }
+fn sizes_limited(mirror: Mirror, profile: Profile, sizes: Sizes) -> Result<Sizes, MmFault>
+    ensures { result ≡ sizes_limited mirror profile sizes }
 {
     if sizes.rows > profile.rows || sizes.cols > profile.cols {
         return Err(MmFault::BadSize);
@@ -92,8 +92,8 @@ pub fn read_sizes(banner: Banner, profile: Profile, line: &[u8]) -> Result<Sizes
     ensures count { IfOk result (λ sizes. sizes.count ≤ profile.entries) }
     ensures dense { IfOk result (λ sizes. banner.kind ≡ Kind.Dense → sizes.count ≡ sizes.rows * sizes.cols) }
 {
-    match announced(banner.kind, without_return(line)) {
+    match sizes_announced(banner.kind, without_return(line)) {
         None => Err(MmFault::BadSize),
-        Some(sizes) => limited(banner.mirror, profile, sizes),
+        Some(sizes) => sizes_limited(banner.mirror, profile, sizes),
     }
 }

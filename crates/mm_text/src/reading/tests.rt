@@ -301,6 +301,101 @@ fn long_lines(rt: HostRuntime) -> Result<(), Fail> {
     Ok(())
 }
 
+/// What the lines behind the banner are read as, where so many rows are allowed.
+fn with_rows(alloc: Global, most: u64, lines: &str) -> Result<String, Fail> {
+    let text = format!(in alloc; "%%MatrixMarket matrix coordinate integer general\n{lines}")?;
+    let mut files = OneFile {
+        bytes: text.as_bytes().to_vec(alloc)?,
+        reads: 0,
+        fails: u64::MAX,
+        faults: 0,
+    };
+    let most = most.min(1_099_511_627_776);
+    let found = read_matrix(alloc, &mut files, "a.mtx", Form::Coordinate, u32::MAX, most);
+    in_words(alloc, found)
+}
+
+/// The greatest of each size and number that is accepted, and the least that is not.
+#[test]
+fn limits(rt: HostRuntime) -> Result<(), Fail> {
+    let alloc = rt.alloc();
+    let rows = 1_099_511_627_776;
+    let cases = [
+        ("1099511627776 1 0\n", "1099511627776 1 Plain 0"),
+        ("1099511627777 1 0\n", "BadSize"),
+        ("1 16777216 0\n", "1 16777216 Plain 0"),
+        ("1 16777217 0\n", "BadSize"),
+        ("1 1 4294967295\n", "TooFew { have: 0 }"),
+        ("1 1 4294967296\n", "TooManyEntries"),
+    ];
+    for (lines, words) in cases {
+        assert_eq!(rt; with_rows(alloc, rows, lines)?.as_str(), words);
+    }
+    assert_eq!(rt; with_rows(alloc, 2, "2 1 0\n")?.as_str(), "2 1 Plain 0");
+    assert_eq!(rt; with_rows(alloc, 2, "3 1 0\n")?.as_str(), "BadSize");
+    let most = "170141183460469231731687303715884105727";
+    let above = "170141183460469231731687303715884105728";
+    for sign in ["", "+", "-"] {
+        let lines = format!(in alloc; "1 1 1\n1 1 {sign}{most}\n")?;
+        let shown = if sign == "-" { "-" } else { "" };
+        let words = format!(in alloc; "1 1 Plain 1; 0 0 {shown}{most}")?;
+        assert_eq!(rt; coordinate(alloc, lines.as_str())?.as_str(), words.as_str());
+        let lines = format!(in alloc; "1 1 1\n1 1 {sign}{above}\n")?;
+        assert_eq!(rt;
+            coordinate(alloc, lines.as_str())?.as_str(),
+            "NumberTooWide { line: 3 }"
+        );
+    }
+    assert_eq!(rt;
+        array(alloc, "16777216 0\n")?.as_str(),
+        "16777216 0 Plain 0"
+    );
+    assert_eq!(rt; array(alloc, "16777217 0\n")?.as_str(), "BadSize");
+    Ok(())
+}
+
+/// A text with as many bytes as are allowed is read, and one byte more is too long.
+#[test]
+fn bytes_of_a_text(rt: HostRuntime) -> Result<(), Fail> {
+    let alloc = rt.alloc();
+    let text = b"%%MatrixMarket matrix coordinate integer general\n1 1 1\n1 1 7\n%%";
+    let mut profile = Profile::new(Form::Coordinate, 1, 1);
+    for (bytes, words) in [(63, "1 1 Plain 1; 0 0 7"), (62, "TooLong"), (61, "TooLong")] {
+        profile.bytes = bytes;
+        let found = read_text(alloc, text, profile);
+        assert_eq!(rt; in_words(alloc, found)?.as_str(), words);
+    }
+    Ok(())
+}
+
+/// Each fault is printed by its name.
+#[test]
+fn names_of_faults(rt: HostRuntime) -> Result<(), Fail> {
+    let faults = [
+        (MmFault::ReadFault, "ReadFault"),
+        (MmFault::NoBanner, "NoBanner"),
+        (MmFault::BadBanner, "BadBanner"),
+        (MmFault::UnsupportedField, "UnsupportedField"),
+        (MmFault::UnsupportedSymmetry, "UnsupportedSymmetry"),
+        (MmFault::WrongForm, "WrongForm"),
+        (MmFault::BadSize, "BadSize"),
+        (MmFault::BadLine { line: 1 }, "BadLine"),
+        (MmFault::OutOfRange { line: 1 }, "OutOfRange"),
+        (MmFault::NotSquare, "NotSquare"),
+        (MmFault::SkewDiagonal { line: 1 }, "SkewDiagonal"),
+        (MmFault::TooFew { have: 1 }, "TooFew"),
+        (MmFault::Extra { line: 1 }, "Extra"),
+        (MmFault::NumberTooWide { line: 1 }, "NumberTooWide"),
+        (MmFault::TooManyEntries, "TooManyEntries"),
+        (MmFault::TooLong, "TooLong"),
+        (MmFault::NoMem, "NoMem"),
+    ];
+    for (fault, name) in faults {
+        assert_eq!(rt; format!(in rt.alloc(); "{fault}")?.as_str(), name);
+    }
+    Ok(())
+}
+
 /// A read that fails is a fault of the reads, whichever it is.
 #[test]
 fn failed_reads(rt: HostRuntime) -> Result<(), Fail> {

@@ -3,15 +3,18 @@ ghost use Rattle.std.specs.Prelude.{◌≡◌, ◌+◌, ◌*◌, ◌/◌, ◌<�
 ghost use Rattle.mm_text.specs.Limits.{IsReadable, most_bytes, most_rows};
 ghost use Rattle.mm_text.specs.Lines.{kept_from, lines_of};
 ghost use Rattle.mm_text.specs.Outcomes.{Gives};
-ghost use Rattle.mm_text.specs.Reading.{entries_in, file_of, lines_read, reading, sized};
+ghost use Rattle.mm_text.specs.Reading.{entries_in, file_of, lines_read, reading, file_sized};
 
 use crate::profile::Profile;
 use crate::reading::banner::{Banner, Kind, read_banner};
 use crate::reading::entries::read_entry;
-use crate::reading::lines::{next_kept, next_line};
 use crate::reading::sizes::{Sizes, read_sizes};
 use crate::{FileData, Line, MmFault};
 use std::alloc::Global;
+use text_lines::{next_kept, next_line};
+
+/// The byte that a comment begins with.
+const MARK: u8 = b'%';
 
 /// The fault where the lines end: more follows in a text that is too long.
 fn end_fault(whole: bool, fault: MmFault) -> MmFault
@@ -21,7 +24,7 @@ fn end_fault(whole: bool, fault: MmFault) -> MmFault
 }
 
 /// Room for so many entries, and for no more than so many bytes can hold.
-fn reserved(count: u64, bytes: usize) -> usize
+fn reserved_len(count: u64, bytes: usize) -> usize
     ensures count { result ≤ count }
     ensures bytes { result ≤ bytes / 2 + 1 }
 {
@@ -50,11 +53,11 @@ fn read_entries(
     ensures { Gives (λ lines. lines.items) result
         (entries_in whole banner sizes (kept_from number (lines_of whole bytes.now))) }
 {
-    let mut lines = Vec::with_capacity(alloc, reserved(sizes.count, bytes.len()))?;
+    let mut lines = Vec::with_capacity(alloc, reserved_len(sizes.count, bytes.len()))?;
     let mut rest = bytes;
     let mut first = number;
     for at in 0..sizes.count {
-        match next_kept(rest, first, whole) {
+        match next_kept(MARK, rest, first, whole) {
             None => return Err(end_fault(whole, MmFault::TooFew { have: at as u32 })),
             Some(kept) => {
                 let line = read_entry(banner, sizes, kept.number, at, kept.line)?;
@@ -64,7 +67,7 @@ fn read_entries(
             }
         }
     }
-    match next_kept(rest, first, whole) {
+    match next_kept(MARK, rest, first, whole) {
         Some(kept) => Err(MmFault::Extra { line: kept.number }),
         None => {
             if whole {
@@ -86,9 +89,9 @@ fn read_sized(
 ) -> Result<FileData, MmFault>
     requires readable { IsReadable profile }
     requires length { length bytes.now ≤ most_bytes }
-    ensures { Gives file_of result (sized whole profile banner (kept_from 2 (lines_of whole bytes.now))) }
+    ensures { Gives file_of result (file_sized whole profile banner (kept_from 2 (lines_of whole bytes.now))) }
 {
-    match next_kept(bytes, 2, whole) {
+    match next_kept(MARK, bytes, 2, whole) {
         None => Err(end_fault(whole, MmFault::BadSize)),
         Some(kept) => {
             let sizes = read_sizes(banner, profile, kept.line)?;

@@ -1,6 +1,6 @@
 //! Worked texts, and sinks that fail.
 ghost use Rattle.std.specs.Prelude.{IsTrue};
-ghost use Rattle.mm_text.specs.Written.{AreWithin, AreInOrder, IsBefore};
+ghost use Rattle.mm_text.specs.Written.{ArePlacesWithin, ArePlacesInOrder, IsBefore};
 
 use crate::{Shown, write_array, write_coordinate};
 use outside::MemSink;
@@ -8,13 +8,13 @@ use std::alloc::{AllocError, Global};
 use std::test::Fail;
 
 fn are_within(rows: u64, cols: u64, cells: &[Shown]) -> bool
-    ensures { IsTrue result → AreWithin rows cols cells.now }
+    ensures { IsTrue result → ArePlacesWithin rows cols cells.now }
 {
     cells.iter().all(|cell| cell.row < rows && cell.col < cols)
 }
 
 fn are_in_order(cells: &[Shown]) -> bool
-    ensures { IsTrue result → AreInOrder cells.now }
+    ensures { IsTrue result → ArePlacesInOrder cells.now }
 {
     for k in 1..cells.len() {
         if !is_before(&cells[k - 1], &cells[k]) {

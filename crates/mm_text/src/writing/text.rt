@@ -1,7 +1,7 @@
 //! The writers of Matrix Market text: NIST Matrix Market exchange formats, "coordinate" and "array".
 ghost use Rattle.std.specs.Prelude.{◌≡◌, ◌*◌, [], ◌++◌, length, map};
 ghost use Rattle.outside.specs.Writes.{Writes, WritesAndHolds};
-ghost use Rattle.mm_text.specs.Written.{AreWithin, AreInOrder, coordinate_text, coordinate_head, array_text, array_head, cell_words, value_words, lines_text};
+ghost use Rattle.mm_text.specs.Written.{ArePlacesWithin, ArePlacesInOrder, coordinate_text, coordinate_head, array_text, array_head, cell_words, value_words, lines_text};
 
 use crate::writing::line::{
     push_array_banner, push_cell, push_coordinate_banner, push_entry, push_part, push_shape,
@@ -26,8 +26,8 @@ pub fn write_coordinate<O: Sink>(
     part: Option<u32>,
     cells: &[Shown],
 ) -> Result<(), SinkFault>
-    requires within { AreWithin rows cols cells.now }
-    requires in_order { AreInOrder cells.now }
+    requires within { ArePlacesWithin rows cols cells.now }
+    requires in_order { ArePlacesInOrder cells.now }
     ensures { Writes O.told O.faults out.old out.new (coordinate_text rows cols part cells.now) result }
 {
     let mut page = Page::new();
@@ -90,7 +90,7 @@ fn write_cells<O: Sink>(
     cols: u64,
     cells: &[Shown],
 ) -> Result<(), SinkFault>
-    requires { AreWithin rows cols cells.now }
+    requires { ArePlacesWithin rows cols cells.now }
     ensures { WritesAndHolds O.told O.faults out.old out.new
         page.new.items (page.old.items ++ lines_text (map cell_words cells.now)) result }
 {

@@ -2,7 +2,8 @@ use Rattle.std.proofs.Common.{◌≡◌, ◌-◌, ◌^◌, ◌∙◌, ap, min, a
 use Rattle.std.proofs.lemmas.List.{drop_all}
 use Rattle.std.specs.Char.{is_ascii_digit}
 use Rattle.std.specs.Str.Parse.{digits_value_after}
-use Rattle.mm_text.proofs.NumeralLemmas.{digit_at_least, digit_here, digits_step, value_step}
+use Rattle.text_lines.proofs.NumeralLemmas.{digits_step, value_step}
+use Rattle.mm_text.proofs.NumeralLemmas.{digit_at_least, digit_here}
 use Rattle.mm_text.proofs.reading.numerals.wide_digits.Goals as goal
 
 pub overflow_sub-byte : goal.overflow_sub-byte

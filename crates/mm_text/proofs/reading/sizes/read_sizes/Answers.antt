@@ -2,7 +2,7 @@ use Rattle.std.proofs.Common.{ap, sym, subst, ◌∙◌, IfOk, ◌≡◌, ◌*�
 use Rattle.std.proofs.lemmas.Result.{IfOk-weaker}
 use Rattle.mm_text.specs.Lines.{words_in, words_of}
 use Rattle.mm_text.specs.Outcomes.{Outcome}
-use Rattle.mm_text.specs.Sizes.{announced, sizes_of}
+use Rattle.mm_text.specs.Sizes.{sizes_announced, sizes_of}
 use Rattle.mm_text.specs.declared.reading.banner.Kind.TheVariants.{Dense}
 use Rattle.mm_text.specs.declared.reading.sizes.Sizes.{Sizes}
 use Rattle.mm_text.proofs.SizeLemmas.{sizes_cut}
@@ -11,8 +11,8 @@ use Rattle.mm_text.proofs.reading.sizes.read_sizes.Goals as goal
 
 pub returns-in-Some-clause-sizes : goal.returns-in-Some-clause-sizes
 returns-in-Some-clause-sizes c =
-    c.limited.ensures
-    ∙ sizes_cut c.args.banner c.args.profile (announced c.args.banner.kind (words_in c.without_return.result.now)) c.in-Some.sizes
+    c.sizes_limited.ensures
+    ∙ sizes_cut c.args.banner c.args.profile (sizes_announced c.args.banner.kind (words_in c.without_return.result.now)) c.in-Some.sizes
     c.in-Some.ensures c.requires.rows c.requires.cols c.requires.entries
     ∙ ap (λ line. sizes_of c.args.banner c.args.profile (words_in line)) c.without_return.ensures
 

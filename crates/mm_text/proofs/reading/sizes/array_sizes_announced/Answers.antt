@@ -5,7 +5,7 @@ use Rattle.mm_text.specs.Lines.{Text}
 use Rattle.mm_text.specs.Numerals.{count_of}
 use Rattle.mm_text.specs.Sizes.{array_sizes}
 use Rattle.mm_text.proofs.SizeLemmas.{array_cut}
-use Rattle.mm_text.proofs.reading.sizes.array_announced.Goals as goal
+use Rattle.mm_text.proofs.reading.sizes.array_sizes_announced.Goals as goal
 
 pub returns : goal.returns
 returns c =
