@@ -2,3 +2,4 @@ pub mod Ascending
 pub mod Fills
 pub mod AllColumns
 pub mod Places
+pub mod ColumnLists

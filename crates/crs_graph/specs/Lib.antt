@@ -1,3 +1,4 @@
 pub mod Ascending
 pub mod Fills
 pub mod Faults
+pub mod ColumnMaps

@@ -1,18 +1,21 @@
 //! The structure of a sparse matrix on one rank: which places its rows have, as `Tpetra::CrsGraph` keeps it.
 //!
 //! A `GraphFill` takes places by global row and column, in any order and each as often as it comes. Contracts see it as the
-//! list of its rows and, for each of them, the columns that it has, ascending: a set of places.
+//! list of its rows and, for each of them, the columns that it has, ascending: a set of places. The column map lists first
+//! the columns of the domain, in its order, then the others by owner, then by index.
 //!
 //! ```text
 //! let mut fill = GraphFill::new(alloc, rows)?;
 //! let is_new = fill.insert(row, col)?;
 //! let columns = fill.columns()?;
+//! let map = column_map(alloc, &columns, &domain, &owners)?;
 //! ```
 //!
 //! It stands on `map_core`, whose maps have the rows, and keeps rows under construction with `smallvec`. Matrices stand on
 //! it.
 #![tactic(auto)]
 
+mod column_order;
 mod columns;
 mod faults;
 mod fill;
@@ -20,5 +23,6 @@ pub mod laws;
 #[cfg(test)]
 mod tests;
 
+pub use column_order::column_map;
 pub use faults::FillFault;
 pub use fill::GraphFill;

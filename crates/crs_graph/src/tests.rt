@@ -1,5 +1,5 @@
 //! Worked examples.
-use crate::{FillFault, GraphFill};
+use crate::{FillFault, GraphFill, column_map};
 use map_core::LocalMap;
 use std::test::Fail;
 
@@ -13,5 +13,19 @@ fn places_once(rt: HostRuntime) -> Result<(), Fail> {
     assert!(rt; !fill.insert(0, 2)?);
     assert!(rt; matches!(fill.insert(7, 0), Err(FillFault::NoSuchRow { row: 7 })));
     assert_eq!(rt; fill.columns()?.as_slice(), [0, 1, 2].as_slice());
+    Ok(())
+}
+
+#[test]
+fn domain_first(rt: HostRuntime) -> Result<(), Fail> {
+    let domain = LocalMap::from_list(rt.alloc(), &[1, 0])?;
+    let map = column_map(rt.alloc(), &[0, 1, 2], &domain, &[0, 0, 1])?;
+    let list = [
+        map.global_of(0),
+        map.global_of(1),
+        map.global_of(2),
+        map.global_of(3),
+    ];
+    assert_eq!(rt; list, [Some(1), Some(0), Some(2), None]);
     Ok(())
 }
