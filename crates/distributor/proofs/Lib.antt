@@ -4,3 +4,4 @@ pub mod Reserved
 pub mod Arrived
 pub mod Absorbed
 pub mod Written
+pub mod Rounds

@@ -27,6 +27,7 @@
 mod absorbing;
 mod combining;
 mod fault;
+pub mod laws;
 mod packing;
 mod source;
 mod target;
