@@ -176,8 +176,10 @@ fn read_on<F: Files>(
 #[test]
 fn a_file_of_the_system_is_read_beyond_one_piece(rt: HostRuntime) -> Result<(), Fail> {
     let mut text = Vec::new(rt.alloc());
-    for k in 0..50_000u32 {
-        text.push((k % 251) as u8)?;
+    for _ in 0..200 {
+        for k in 0..=250u8 {
+            text.push(k)?;
+        }
     }
     fs::write(&rt, "outside-long.txt", text.as_slice())?;
     let mut files = RealFiles::new(&rt);
@@ -187,9 +189,9 @@ fn a_file_of_the_system_is_read_beyond_one_piece(rt: HostRuntime) -> Result<(), 
     assert_eq!(rt; found.len(), text.len());
     assert!(rt; found.as_slice() == text.as_slice());
     assert!(rt; matches!(read(&mut files, "outside-long.txt", 251, &mut buf), Ok(n) if n > 2));
-    assert_eq!(rt; &buf[..3], [0u8, 1, 2].as_slice());
+    assert!(rt; buf.starts_with(&[0u8, 1, 2]));
     assert!(rt; matches!(read(&mut files, "outside-long.txt", 253, &mut buf), Ok(n) if n > 2));
-    assert_eq!(rt; &buf[..3], [2u8, 3, 4].as_slice());
+    assert!(rt; buf.starts_with(&[2u8, 3, 4]));
     fs::remove_file(&rt, "outside-long.txt")?;
     Ok(())
 }
@@ -211,46 +213,42 @@ fn files_whose_names_have_one_length_are_told_apart(rt: HostRuntime) -> Result<(
     Ok(())
 }
 
-/// A letter of this kind with one word and two numbers: the values 7 and 2^128 - 1, the weights 7 and 1.
-fn letter_of_kind(alloc: Global, kind: u8) -> Result<Vec<u8>, Fail> {
+/// A letter of this kind with the index 5 and these words as its numbers.
+fn letter_of_kind(alloc: Global, kind: u8, words: &[u128]) -> Result<Vec<u8>, Fail> {
     let mut letter = Vec::new(alloc);
     letter.push(kind)?;
     letter.extend_from_slice(&1u64.to_le_bytes())?;
     letter.extend_from_slice(&5u64.to_le_bytes())?;
-    for word in [7, 7, u128::MAX, 1] {
+    for word in words {
         letter.extend_from_slice(&word.to_le_bytes())?;
     }
     Ok(letter)
 }
 
+/// What a wire that adds 3 gives for the letter.
+fn twisted(alloc: Global, letter: &[u8]) -> Result<Vec<u8>, Fail> {
+    let mut wire = TwistWire::new(alloc, 3);
+    let mut into = Vec::new(alloc);
+    pass(&mut wire, name_of(0), letter, &mut into)?;
+    Ok(into)
+}
+
 #[test]
 fn numbers_of_data_letters_are_changed(rt: HostRuntime) -> Result<(), Fail> {
-    let mut wire = TwistWire::new(rt.alloc(), 3);
-    let mut into = Vec::new(rt.alloc());
-    let letter = letter_of_kind(rt.alloc(), 22)?;
-    wire.post(name_of(0), &letter)?;
-    assert_eq!(rt; wire.pending_count(), 1);
-    wire.take(name_of(0), &mut into)?;
-    assert_eq!(rt; wire.pending_count(), 0);
-    assert_eq!(rt; &into[..17], &letter[..17]);
-    let mut numbers = Vec::new(rt.alloc());
-    for word in [10u128, 10, 2, 4] {
-        numbers.extend_from_slice(&word.to_le_bytes())?;
-    }
-    assert_eq!(rt; &into[17..], numbers.as_slice());
+    let letter = letter_of_kind(rt.alloc(), 22, &[7, 7, u128::MAX, 1])?;
+    let changed = letter_of_kind(rt.alloc(), 22, &[10, 10, 2, 4])?;
+    assert!(rt; twisted(rt.alloc(), &letter)?.as_slice() == changed.as_slice());
     Ok(())
 }
 
 #[test]
 fn letters_of_other_kinds_are_given_as_posted(rt: HostRuntime) -> Result<(), Fail> {
-    let mut wire = TwistWire::new(rt.alloc(), 3);
-    let mut into = Vec::new(rt.alloc());
-    let rows = letter_of_kind(rt.alloc(), 23)?;
-    pass(&mut wire, name_of(0), &rows, &mut into)?;
-    assert!(rt; into.as_slice() == rows.as_slice());
-    pass(&mut wire, name_of(1), b"", &mut into)?;
-    assert!(rt; into.is_empty());
-    pass(&mut wire, name_of(2), &[22, 1], &mut into)?;
-    assert_eq!(rt; into.as_slice(), [22u8, 1].as_slice());
+    let rows = letter_of_kind(rt.alloc(), 23, &[7, 7])?;
+    assert!(rt; twisted(rt.alloc(), &rows)?.as_slice() == rows.as_slice());
+    assert!(rt; twisted(rt.alloc(), b"")?.is_empty());
+    assert_eq!(rt;
+        twisted(rt.alloc(), &[22, 1])?.as_slice(),
+        [22u8, 1].as_slice()
+    );
     Ok(())
 }

@@ -354,17 +354,20 @@ fn limits(rt: HostRuntime) -> Result<(), Fail> {
     Ok(())
 }
 
+/// What a text of 63 bytes is read as, where so many bytes are allowed.
+fn with_bytes(alloc: Global, most: usize) -> Result<String, Fail> {
+    let text = b"%%MatrixMarket matrix coordinate integer general\n1 1 1\n1 1 7\n%%";
+    let mut profile = Profile::new(Form::Coordinate, 1, 1);
+    profile.bytes = most.min(100);
+    in_words(alloc, read_text(alloc, text, profile))
+}
+
 /// A text with as many bytes as are allowed is read, and one byte more is too long.
 #[test]
 fn bytes_of_a_text(rt: HostRuntime) -> Result<(), Fail> {
-    let alloc = rt.alloc();
-    let text = b"%%MatrixMarket matrix coordinate integer general\n1 1 1\n1 1 7\n%%";
-    let mut profile = Profile::new(Form::Coordinate, 1, 1);
-    for (bytes, words) in [(63, "1 1 Plain 1; 0 0 7"), (62, "TooLong"), (61, "TooLong")] {
-        profile.bytes = bytes;
-        let found = read_text(alloc, text, profile);
-        assert_eq!(rt; in_words(alloc, found)?.as_str(), words);
-    }
+    assert_eq!(rt; with_bytes(rt.alloc(), 63)?.as_str(), "1 1 Plain 1; 0 0 7");
+    assert_eq!(rt; with_bytes(rt.alloc(), 62)?.as_str(), "TooLong");
+    assert_eq!(rt; with_bytes(rt.alloc(), 61)?.as_str(), "TooLong");
     Ok(())
 }
 
