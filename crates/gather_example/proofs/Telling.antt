@@ -32,22 +32,22 @@ part_same n a b same = go (n.phase == 0) refl
 pub tells : (worker : Teller) (s : Stage) (n : Name) → IsTeller worker s → CanSend s n →
     worker.word.items ++ told_part n worker.heard.items ≡ s.protocol.content n s.absorbed
 tells worker s n is send =
-    (λ i. sym word i ++ part_same n worker.heard.items (heard n.from (only (gather_before worker.ranks worker.phases n) s.absorbed)) said i)
+    (λ i. sym word i ++ part_same n worker.heard.items (heard n.from (only (gather_before worker.ranks worker.rounds worker.phases n) s.absorbed)) said i)
     ∙ sym (ap (λ (Q : Protocol). Q.content n s.absorbed) is.protocol)
   where
     P : Protocol
-    P = gather is.words worker.ranks worker.phases
+    P = gather is.words worker.ranks worker.rounds worker.phases
 
     word : is.words n.from ≡ worker.word.items
     word = ap is.words (send.from ∙ sym is.rank) ∙ is.word
 
-    letters : AreLettersTo (gather is.words worker.ranks worker.phases) n.from s.absorbed
-    letters = subst (λ r. AreLettersTo (gather is.words worker.ranks worker.phases) r s.absorbed) (sym send.from) (subst (λ Q. AreLettersTo Q s.rank s.absorbed) is.protocol is.letters)
+    letters : AreLettersTo (gather is.words worker.ranks worker.rounds worker.phases) n.from s.absorbed
+    letters = subst (λ r. AreLettersTo (gather is.words worker.ranks worker.rounds worker.phases) r s.absorbed) (sym send.from) (subst (λ Q. AreLettersTo Q s.rank s.absorbed) is.protocol is.letters)
 
-    said : 0 < n.phase → worker.heard.items ≡ heard n.from (only (gather_before worker.ranks worker.phases n) s.absorbed)
+    said : 0 < n.phase → worker.heard.items ≡ heard n.from (only (gather_before worker.ranks worker.rounds worker.phases n) s.absorbed)
     said later =
         is.hears ∙ ap (λ r. heard r s.absorbed) (sym send.from)
-        ∙ ap (flat_map (λ (l : Letter). l.1)) (sym (arrivals-known (gather is.words worker.ranks worker.phases) n refl s.absorbed letters 0 later))
+        ∙ ap (flat_map (λ (l : Letter). l.1)) (sym (arrivals-known (gather is.words worker.ranks worker.rounds worker.phases) n refl s.absorbed letters 0 later))
 
 -- What it hears
 

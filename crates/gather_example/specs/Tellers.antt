@@ -8,7 +8,7 @@ use Rattle.gather_example.specs.declared.teller.Teller.{Teller}
 -- The worker is that of this rank of the protocol, has its word, and what it heard.
 pub record IsTeller (worker : Teller) (s : Stage) : Type 0 where
   pub words : ℕ → List ℕ
-  pub protocol : s.protocol ≡ gather words worker.ranks worker.phases
+  pub protocol : s.protocol ≡ gather words worker.ranks worker.rounds worker.phases
   pub word : words worker.rank ≡ worker.word.items
   pub phases : worker.phases ≡ s.phases
   pub limit : s.phases + 1 < 2 ^ 32

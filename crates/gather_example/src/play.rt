@@ -29,11 +29,13 @@ pub struct Outcome {
     pub heard: Vec<Vec<u8>>,
 }
 
-/// Plays as many ranks as there are words, for so many phases, over a wire on which nothing is pending, in the order.
+/// Plays as many ranks as there are words, for so many phases, the first `rounds` of them among all ranks, over a wire on
+/// which nothing is pending, in the order.
 /// `Err` is as in [`play`].
 pub fn play_tellers<W: Wire>(
     alloc: Global,
     words: &[Vec<u8>],
+    rounds: u32,
     phases: u32,
     wire: &mut W,
     order: &Order,
@@ -41,31 +43,32 @@ pub fn play_tellers<W: Wire>(
     requires ranks { length words.now < 2 ^ 32 }
     requires phases { phases + 1 < 2 ^ 32 }
     requires none_pending { W.pending wire.old ≡ no_letters }
-    ensures told { IfOk result (IsToldTo (length words.now) (gather (words_of words.now) (length words.now) phases) order.now (wire_state W.pending W.posted W.taken W.given W.is_honest wire.old) (wire_state W.pending W.posted W.taken W.given W.is_honest wire.new)) }
-    ensures wrong { (line : ℕ) (name : Name) → IsErrOf result (PlayFault.NotInFlight line name) → ending (gather (words_of words.now) (length words.now) phases) order.now ≡ Wrong line name }
+    ensures told { IfOk result (IsToldTo (length words.now) (gather (words_of words.now) (length words.now) rounds phases) order.now (wire_state W.pending W.posted W.taken W.given W.is_honest wire.old) (wire_state W.pending W.posted W.taken W.given W.is_honest wire.new)) }
+    ensures wrong { (line : ℕ) (name : Name) → IsErrOf result (PlayFault.NotInFlight line name) → ending (gather (words_of words.now) (length words.now) rounds phases) order.now ≡ Wrong line name }
     ensures fault { IsErrOf result PlayFault.WireFault → Rose (W.faults wire.old) (W.faults wire.new) }
 {
-    play_by(alloc, words, phases, wire, order)
+    play_by(alloc, words, rounds, phases, wire, order)
 }
 
 /// The same, by a protocol that contracts can name.
 fn play_by<W: Wire>(
     alloc: Global,
     words: &[Vec<u8>],
+    rounds: u32,
     phases: u32,
     wire: &mut W,
     order: &Order,
 ) -> Result<Outcome, PlayFault>
     ghost protocol: { Protocol }
-    requires is_gather { protocol ≡ gather (words_of words.now) (length words.now) phases }
+    requires is_gather { protocol ≡ gather (words_of words.now) (length words.now) rounds phases }
     requires ranks { length words.now < 2 ^ 32 }
     requires phases { phases + 1 < 2 ^ 32 }
     requires none_pending { W.pending wire.old ≡ no_letters }
-    ensures told { IfOk result (IsToldTo (length words.now) (gather (words_of words.now) (length words.now) phases) order.now (wire_state W.pending W.posted W.taken W.given W.is_honest wire.old) (wire_state W.pending W.posted W.taken W.given W.is_honest wire.new)) }
-    ensures wrong { (line : ℕ) (name : Name) → IsErrOf result (PlayFault.NotInFlight line name) → ending (gather (words_of words.now) (length words.now) phases) order.now ≡ Wrong line name }
+    ensures told { IfOk result (IsToldTo (length words.now) (gather (words_of words.now) (length words.now) rounds phases) order.now (wire_state W.pending W.posted W.taken W.given W.is_honest wire.old) (wire_state W.pending W.posted W.taken W.given W.is_honest wire.new)) }
+    ensures wrong { (line : ℕ) (name : Name) → IsErrOf result (PlayFault.NotInFlight line name) → ending (gather (words_of words.now) (length words.now) rounds phases) order.now ≡ Wrong line name }
     ensures fault { IsErrOf result PlayFault.WireFault → Rose (W.faults wire.old) (W.faults wire.new) }
 {
-    let mut ranks = new_ranks(alloc, words, phases)?;
+    let mut ranks = new_ranks(alloc, words, rounds, phases)?;
     play_ranks(alloc, &mut ranks, wire, order)
 }
 
@@ -93,16 +96,17 @@ fn play_ranks<W: Wire>(
 fn new_ranks(
     alloc: Global,
     words: &[Vec<u8>],
+    rounds: u32,
     phases: u32,
 ) -> Result<Vec<Phased<Teller>>, AllocError>
     requires ranks { length words.now < 2 ^ 32 }
     requires phases { phases + 1 < 2 ^ 32 }
-    ensures { IfOk result (λ ranks. AreFresh (IsPeer IsTeller) (gather (words_of words.now) (length words.now) phases) ranks.items) }
+    ensures { IfOk result (λ ranks. AreFresh (IsPeer IsTeller) (gather (words_of words.now) (length words.now) rounds phases) ranks.items) }
 {
     let count = words.len() as u32;
     let mut ranks = Vec::new(alloc);
     for rank in 0..count {
-        ranks.push(new_rank(alloc, rank, count, phases, &words[rank as usize])?)?;
+        ranks.push(new_rank(alloc, rank, count, rounds, phases, &words[rank as usize])?)?;
     }
     Ok(ranks)
 }
@@ -112,14 +116,15 @@ pub(crate) fn new_rank(
     alloc: Global,
     rank: u32,
     ranks: u32,
+    rounds: u32,
     phases: u32,
     word: &[u8],
 ) -> Result<Phased<Teller>, AllocError>
     requires rank { rank < ranks }
     requires phases { phases + 1 < 2 ^ 32 }
-    ensures { IfOk result (λ made. (words : ℕ → List ℕ) → words rank ≡ word.now → IsPeer IsTeller made (fresh (gather words ranks phases) rank)) }
+    ensures { IfOk result (λ made. (words : ℕ → List ℕ) → words rank ≡ word.now → IsPeer IsTeller made (fresh (gather words ranks rounds phases) rank)) }
 {
-    let teller = Teller::new(alloc, rank, ranks, phases, word.to_vec(alloc)?);
+    let teller = Teller::new(alloc, rank, ranks, rounds, phases, word.to_vec(alloc)?);
     Ok(Phased::new(alloc, teller))
 }
 

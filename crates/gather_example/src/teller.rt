@@ -9,29 +9,31 @@ use outside::Name;
 use rank_phases::{Entered, Worker, lease_block, names_from_others, names_to_others};
 use std::alloc::{AllocError, Global};
 
-/// A rank that tells its word in phase 0, and in each later phase, to rank 0, its word and what it heard in phase 0.
+/// A rank that tells its word, and in each phase but the first what it heard in phase 0 too: in the first `rounds` phases
+/// to each other rank, in each later one to rank 0.
 #[derive(Drop)]
 pub struct Teller {
     alloc: Global,
     rank: u32,
     ranks: u32,
+    rounds: u32,
     phases: u32,
     word: Vec<u8>,
     heard: Vec<u8>,
 }
 
 /// Whether a letter between two different ranks is sent.
-fn is_sent(name: Name) -> bool
-    ensures { result ≡ is_sent name }
+fn is_sent(rounds: u32, name: Name) -> bool
+    ensures { result ≡ is_sent rounds name }
 {
-    name.phase == 0 || name.to == 0
+    name.phase < rounds || name.to == 0
 }
 
 /// Leaves the names of letters that are sent.
-fn keep_sent(names: &mut Vec<Name>)
-    ensures { names.new.items ≡ filter is_sent names.old.items }
+fn keep_sent(rounds: u32, names: &mut Vec<Name>)
+    ensures { names.new.items ≡ filter (is_sent rounds) names.old.items }
 {
-    names.retain(|name| is_sent(*name));
+    names.retain(|name| is_sent(rounds, *name));
 }
 
 /// Writes two parts into a block, one behind the other.
@@ -50,15 +52,23 @@ impl Teller {
     ghost use Rattle.gather_example.specs.Tellers.{IsTeller};
 
     /// The worker of a rank, below `ranks`, with its word.
-    pub fn new(alloc: Global, rank: u32, ranks: u32, phases: u32, word: Vec<u8>) -> Teller
+    pub fn new(
+        alloc: Global,
+        rank: u32,
+        ranks: u32,
+        rounds: u32,
+        phases: u32,
+        word: Vec<u8>,
+    ) -> Teller
         requires rank { rank < ranks }
         requires phases { phases + 1 < 2 ^ 32 }
-        ensures { (words : ℕ → List ℕ) → words rank ≡ word.items → IsTeller result (beginning (gather words ranks phases) phases rank) }
+        ensures { (words : ℕ → List ℕ) → words rank ≡ word.items → IsTeller result (beginning (gather words ranks rounds phases) phases rank) }
     {
         Teller {
             alloc,
             rank,
             ranks,
+            rounds,
             phases,
             word,
             heard: Vec::new(alloc),
@@ -68,26 +78,26 @@ impl Teller {
     /// The names of the letters of a phase that it posts.
     fn posts(&self, phase: u32) -> Result<Vec<Name>, AllocError>
         requires { self.now.rank < self.now.ranks }
-        ensures { IfOk result (λ names. names.items ≡ names_from (gather_names self.now.ranks self.now.phases) phase self.now.rank) }
+        ensures { IfOk result (λ names. names.items ≡ names_from (gather_names self.now.ranks self.now.rounds self.now.phases) phase self.now.rank) }
     {
         if phase >= self.phases {
             return Ok(Vec::new(self.alloc));
         }
         let mut names = names_to_others(self.alloc, self.ranks, phase, self.rank)?;
-        keep_sent(&mut names);
+        keep_sent(self.rounds, &mut names);
         Ok(names)
     }
 
     /// The names of the letters of a phase that it awaits.
     fn awaits(&self, phase: u32) -> Result<Vec<Name>, AllocError>
         requires { self.now.rank < self.now.ranks }
-        ensures { IfOk result (λ names. names.items ≡ names_to (gather_names self.now.ranks self.now.phases) phase self.now.rank) }
+        ensures { IfOk result (λ names. names.items ≡ names_to (gather_names self.now.ranks self.now.rounds self.now.phases) phase self.now.rank) }
     {
         if phase >= self.phases {
             return Ok(Vec::new(self.alloc));
         }
         let mut names = names_from_others(self.alloc, self.ranks, phase, self.rank)?;
-        keep_sent(&mut names);
+        keep_sent(self.rounds, &mut names);
         Ok(names)
     }
 

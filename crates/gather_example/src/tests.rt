@@ -49,7 +49,7 @@ fn letters(alloc: Global) -> Result<Vec<Name>, AllocError> {
 /// Plays the three ranks over a new wire, on which nothing may be left after a complete play.
 fn played(alloc: Global, order: &Order) -> Result<Result<Outcome, PlayFault>, AllocError> {
     let mut wire = MailRoom::new(alloc);
-    Ok(play_tellers(alloc, &words(alloc)?, 2, &mut wire, order))
+    Ok(play_tellers(alloc, &words(alloc)?, 1, 2, &mut wire, order))
 }
 
 /// Whether the play was complete and the ranks heard these.
@@ -220,7 +220,7 @@ fn the_wire_fails_at_each_call(rt: HostRuntime) -> Result<(), Fail> {
     for call in 0..17 {
         let mut wire = MailRoom::new(alloc);
         wire.fail_at(&[call])?;
-        let outcome = play_tellers(alloc, &words, 2, &mut wire, &Order::Fifo);
+        let outcome = play_tellers(alloc, &words, 1, 2, &mut wire, &Order::Fifo);
         if call < 16 {
             assert_eq!(rt; outcome.err(), Some(PlayFault::WireFault));
         } else {

@@ -18,9 +18,9 @@ loop-rank-preserved c =
     record {
       long = ap length c.in_ok-push.ensures.items ∙ length-push c.loop-rank.ranks.items c.in_ok-new_rank.field-0 c.loop-rank.rank c.loop-rank.invariant.long;
       each = subst
-          (λ (rs : List (Phased Teller)). (k : ℕ) → k < c.loop-rank.rank + 1 → StandsAt (IsPeer IsTeller) rs k (fresh (gather words (length c.args.words.now) c.args.phases) k))
+          (λ (rs : List (Phased Teller)). (k : ℕ) → k < c.loop-rank.rank + 1 → StandsAt (IsPeer IsTeller) rs k (fresh (gather words (length c.args.words.now) c.args.rounds c.args.phases) k))
           (sym c.in_ok-push.ensures.items)
-          (stands-push (IsPeer IsTeller) (fresh (gather words (length c.args.words.now) c.args.phases)) c.loop-rank.ranks.items c.in_ok-new_rank.field-0
+          (stands-push (IsPeer IsTeller) (fresh (gather words (length c.args.words.now) c.args.rounds c.args.phases)) c.loop-rank.ranks.items c.in_ok-new_rank.field-0
           c.loop-rank.rank c.loop-rank.invariant.long c.loop-rank.invariant.each (c.in_ok-new_rank.ensures words word));
     }
 

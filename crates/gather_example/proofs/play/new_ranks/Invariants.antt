@@ -10,5 +10,5 @@ use Rattle.gather_example.proofs.play.new_ranks.Given as goal
 abbrev pub invariant-loop-rank : goal.invariant-loop-rank
 invariant-loop-rank l = record {
   long : length l.ranks.items ≡ l.rank;
-  each : (k : ℕ) → k < l.rank → StandsAt (IsPeer IsTeller) l.ranks.items k (fresh (gather (words_of l.words) (length l.words) l.phases) k);
+  each : (k : ℕ) → k < l.rank → StandsAt (IsPeer IsTeller) l.ranks.items k (fresh (gather (words_of l.words) (length l.words) l.rounds l.phases) k);
 }

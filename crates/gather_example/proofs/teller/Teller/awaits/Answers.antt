@@ -6,9 +6,9 @@ use Rattle.gather_example.proofs.teller.Teller.awaits.Goals as goal
 
 pub returns-then-phase-self : goal.returns-then-phase-self
 returns-then-phase-self c =
-    c.new.ensures.items ∙ sym (awaits-past c.args.self.now.ranks c.args.self.now.phases c.args.phase c.args.self.now.rank c.if-phase-self.true)
+    c.new.ensures.items ∙ sym (awaits-past c.args.self.now.ranks c.args.self.now.rounds c.args.self.now.phases c.args.phase c.args.self.now.rank c.if-phase-self.true)
 
 pub returns : goal.returns
 returns c =
-    c.keep_sent.ensures ∙ ap (filter is_sent) c.in_ok-names.ensures
-    ∙ sym (awaits-here c.args.self.now.ranks c.args.self.now.phases c.args.phase c.args.self.now.rank c.if-phase-self.false c.requires)
+    c.keep_sent.ensures ∙ ap (filter (is_sent c.args.self.now.rounds)) c.in_ok-names.ensures
+    ∙ sym (awaits-here c.args.self.now.ranks c.args.self.now.rounds c.args.self.now.phases c.args.phase c.args.self.now.rank c.if-phase-self.false c.requires)
