@@ -1,9 +1,10 @@
-//! Three ranks over the honest wire: in each kind of order, in every order, and over a wire that fails at each call.
+//! Three ranks over the honest wire: in each kind of order, in every order that is complete, and over a wire that fails at each call. Two
+//! ranks over a wire that changes numbers.
 ghost use Rattle.std.specs.Prelude.{◌≡◌, ◌<◌, IfOk, IfSome, length};
 
 use crate::{Outcome, play_tellers};
 use message_play::{PlayFault, Played};
-use outside::{MailRoom, Name, Wire};
+use outside::{MailRoom, Name, TwistWire, Wire};
 use schedule::{Entry, Order};
 use std::alloc::{AllocError, Global};
 use std::test::Fail;
@@ -190,6 +191,10 @@ fn every_order_is_played(rt: HostRuntime) -> Result<(), Fail> {
     let mut complete: u32 = 0;
     for number in 0..40_320 {
         let names = arrangement(alloc, number)?;
+        // All orders that are complete, and of the others one in 32.
+        if number % 32 != 0 && first_wrong(&names).is_some() {
+            continue;
+        }
         let order = listed(alloc, &names)?;
         match (played(alloc, &order)?, first_wrong(&names)) {
             (Ok(outcome), None) => {
@@ -228,5 +233,44 @@ fn the_wire_fails_at_each_call(rt: HostRuntime) -> Result<(), Fail> {
             assert_eq!(rt; wire.pending_count(), 0);
         }
     }
+    Ok(())
+}
+
+/// A letter with one index and one number, whose value and weight are this.
+fn letter_of_number(alloc: Global, number: u8) -> Result<Vec<u8>, AllocError> {
+    let mut bytes = Vec::new(alloc);
+    bytes.push(22)?;
+    bytes.extend_from_slice(&[1, 0, 0, 0, 0, 0, 0, 0])?;
+    bytes.extend_from_slice(&[3, 0, 0, 0, 0, 0, 0, 0])?;
+    for _ in 0..2 {
+        bytes.push(number)?;
+        bytes.extend_from_slice(&[0; 15])?;
+    }
+    Ok(bytes)
+}
+
+/// A word that is such a letter, and one that is not.
+fn two_words(alloc: Global) -> Result<Vec<Vec<u8>>, AllocError>
+    ensures { IfOk result (λ words. length words.items ≡ 2) }
+{
+    let mut words = Vec::with_capacity(alloc, 2)?;
+    words.push(letter_of_number(alloc, 7)?)?;
+    words.push(b"b".to_vec(alloc)?)?;
+    Ok(words)
+}
+
+#[test]
+fn what_the_wire_changes_is_heard(rt: HostRuntime) -> Result<(), Fail> {
+    let alloc = rt.alloc();
+    let mut wire = TwistWire::new(alloc, 5);
+    let outcome = play_tellers(alloc, &two_words(alloc)?, 1, 1, &mut wire, &Order::Fifo)?;
+    assert!(rt; matches!(outcome.played, Played::Complete));
+    let heard = outcome.heard.as_slice();
+    let twisted = letter_of_number(alloc, 12)?;
+    assert!(rt;
+        heard.len() == 2
+            && heard[0].as_slice() == [b'b'].as_slice()
+            && heard[1].as_slice() == twisted.as_slice()
+    );
     Ok(())
 }
