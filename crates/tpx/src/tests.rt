@@ -1,5 +1,8 @@
 //! Whole commands, over files and sinks in memory.
+use crate::fault::{Fault, TextFault};
+use crate::messages::report;
 use crate::top_call::top;
+use mm_text::MmFault;
 use outside::{MailRoom, MemFiles, MemSink};
 use std::alloc::{AllocError, Global};
 use std::process::Abort;
@@ -270,6 +273,60 @@ fn refusals_name_their_fault(rt: HostRuntime) -> Result<(), Fail> {
             5,
             message.as_bytes(),
         );
+    }
+    Ok(())
+}
+
+#[test]
+fn limits_are_the_greatest_that_is_accepted(rt: HostRuntime) -> Result<(), Fail> {
+    let alloc = rt.alloc();
+    for sizes in ["16777216 1 0", "1 16777216 0"] {
+        let text = format!(in alloc; "{BANNER}{sizes}\n")?;
+        let ran = show(alloc, "4", "e.mtx", text.as_bytes())?;
+        expect_text(&rt, &ran, text.as_bytes());
+    }
+    let refusals = [
+        ("16777217 1 0", "BadSize"),
+        ("1 16777217 0", "BadSize"),
+        ("1 1 8388608", "TooFew 0"),
+        ("1 1 8388609", "TooManyEntries"),
+    ];
+    for (sizes, fault) in refusals {
+        let text = format!(in alloc; "{BANNER}{sizes}\n")?;
+        let message = format!(in alloc; "tpx: e.mtx: {fault}\n")?;
+        let ran = show(alloc, "4", "e.mtx", text.as_bytes())?;
+        expect_message(&rt, &ran, 5, message.as_bytes());
+    }
+    Ok(())
+}
+
+#[test]
+fn each_fault_of_a_text_has_its_name(rt: HostRuntime) -> Result<(), Fail> {
+    let alloc = rt.alloc();
+    let faults = [
+        (MmFault::NoBanner, "NoBanner"),
+        (MmFault::BadBanner, "BadBanner"),
+        (MmFault::UnsupportedField, "UnsupportedField"),
+        (MmFault::UnsupportedSymmetry, "UnsupportedSymmetry"),
+        (MmFault::WrongForm, "WrongForm"),
+        (MmFault::BadSize, "BadSize"),
+        (MmFault::BadLine { line: 1 }, "BadLine 1"),
+        (MmFault::OutOfRange { line: 20 }, "OutOfRange 20"),
+        (MmFault::NotSquare, "NotSquare"),
+        (MmFault::SkewDiagonal { line: 3 }, "SkewDiagonal 3"),
+        (MmFault::TooFew { have: 0 }, "TooFew 0"),
+        (MmFault::Extra { line: 4294967295 }, "Extra 4294967295"),
+        (MmFault::NumberTooWide { line: 4 }, "NumberTooWide 4"),
+        (MmFault::TooManyEntries, "TooManyEntries"),
+        (MmFault::TooLong, "TooLong"),
+    ];
+    for (fault, name) in faults {
+        let mut err = MemSink::new(alloc, 100)?;
+        let fault = TextFault::Matrix(fault);
+        let ended = Err(Fault::Refused { file: "f", fault });
+        assert_eq!(rt; report(&mut err, &ended), 5);
+        let message = format!(in alloc; "tpx: f: {name}\n")?;
+        assert_eq!(rt; err.bytes(), message.as_bytes());
     }
     Ok(())
 }
