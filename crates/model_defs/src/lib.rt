@@ -5,7 +5,13 @@
 //! `mm_text`; `gathered_rows` and `tpx` stand on it.
 #![tactic(auto)]
 
+mod job;
 pub mod laws;
+mod lists;
+mod sheets;
 
+pub use job::{Job, MapForm, MapSpec, MatrixSpec, Origin, PartsSpec, Step, VectorSpec};
+pub use lists::{ListOf, Text};
 pub use mm_text::{FileData, Form, Line, Mirror, Shown};
+pub use sheets::{LetterLine, PhaseLine, Sheet, SheetKind};
 pub use tables::Cell;
