@@ -3,7 +3,7 @@ use Rattle.std.proofs.Common.{◌≡◌, ◌≢◌, ◌∙◌, ℕ, List, Option
 use Rattle.std.specs.Prelude.{Contains, IsSome, is_some}
 use Rattle.std.specs.Bool.{Decides}
 use Rattle.std.specs.Cmp.{IsEquivalence, tied_then}
-use Rattle.std.proofs.lemmas.Bool.{eqb-true, eq-eqb, false_from_ne_true}
+use Rattle.std.proofs.lemmas.Bool.{and_parts, eqb-true, eq-eqb, false_from_ne_true}
 use Rattle.std.proofs.lemmas.Bool.Decides.{nat_tests}
 use Rattle.outside.specs.declared.name.Name.{Name}
 use Rattle.outside.specs.Letters.{Letters, IsCountOf, no_letters, same_name, with_letter, without_letter}
@@ -15,14 +15,6 @@ name_cmp = cmp-value.it
 
 is_eq-nat_cmp : (x y : ℕ) → is_eq (nat_cmp x y) ≡ (x == y)
 is_eq-nat_cmp x y = grind (arith, nat_tests)
-
-and_left : (a b : Bool) → (a && b) ≡ true → a ≡ true
-and_left true b e = refl
-and_left false b e = e
-
-and_right : (a b : Bool) → (a && b) ≡ true → b ≡ true
-and_right true b e = e
-and_right false b e = absurd (cc)
 
 regrouped : (a b c : Bool) → (a && (b && c)) ≡ ((a && b) && c)
 regrouped true b c = refl
@@ -37,10 +29,11 @@ is_eq-name_cmp a b =
 -- two names of one test are one name
 pub same_name-is : (a b : Name) → same_name a b ≡ true → a ≡ b
 same_name-is a b e =
-    let front = and_left ((a.phase == b.phase) && (a.from == b.from)) (a.to == b.to) e in
-    let phase = eqb-true a.phase b.phase (and_left (a.phase == b.phase) (a.from == b.from) front) in
-    let from = eqb-true a.from b.from (and_right (a.phase == b.phase) (a.from == b.from) front) in
-    let to = eqb-true a.to b.to (and_right ((a.phase == b.phase) && (a.from == b.from)) (a.to == b.to) e) in
+    let all = and_parts ((a.phase == b.phase) && (a.from == b.from)) (a.to == b.to) e in
+    let front = and_parts (a.phase == b.phase) (a.from == b.from) all.0 in
+    let phase = eqb-true a.phase b.phase front.0 in
+    let from = eqb-true a.from b.from front.1 in
+    let to = eqb-true a.to b.to all.1 in
     λ i. record { phase = phase i; from = from i; to = to i }
 
 -- a name is its own

@@ -1,5 +1,5 @@
 -- Small letters, and what a twisting wire gives for them.
-use Rattle.std.proofs.Common.{◌≡◌, ℕ, List, [], ◌∷◌, ◌++◌, replicate, refl}
+use Rattle.std.proofs.Common.{◌≡◌, ℕ, List, ◌∷◌, ◌++◌, replicate, refl}
 use Rattle.outside.specs.Letters.{index_end}
 use Rattle.outside.specs.TwistWire.{moved_number, moved_word, twisted}
 

@@ -3,7 +3,7 @@ use Rattle.std.proofs.Common.{◌≡◌, ℕ, zero, suc, ◌+◌, ◌-◌, ◌*�
 use Rattle.std.specs.Prelude.{Result, Ok, Err, OnOk, is_ok}
 use Rattle.std.specs.Int.{from_le_bytes, w64}
 use Rattle.std.proofs.lemmas.Bool.{cases_lt}
-use Rattle.std.proofs.lemmas.List.{take_all, take-take, drop-take, take_min, drop_all, append-nil, length-take, length-take-le, take-append-le, drop_min}
+use Rattle.std.proofs.lemmas.List.{take-take, drop-take, take_min, drop_all, append-nil, length-take, length-take-le, take-append-le, drop_min}
 use Rattle.outside.specs.Letters.{IsAlike, index_end}
 use Rattle.outside.specs.TwistWire.{all_moved, is_data, moved_number, moved_numbers, moved_word, twisted}
 
