@@ -1,5 +1,5 @@
 -- What is read of a name, and what its text is.
-use Rattle.std.proofs.Common.{◌≡◌, ◌⊎◌, ℕ, ◌+◌, ◌≤◌, false, List, Option, Some, None, Result, Ok, Err, IfOk, IfErr, IsErrOf, MatchOption, take, length, ap, sym, ◌∙◌, subst, arith, inl, inr}
+use Rattle.std.proofs.Common.{◌≡◌, ◌⊎◌, ℕ, ◌+◌, ◌≤◌, false, List, Option, Some, Result, Ok, Err, IfOk, IfErr, IsErrOf, MatchOption, take, length, ap, sym, ◌∙◌, subst, arith, inl, inr}
 use Rattle.std.proofs.lemmas.Bool.{cases_lt}
 use Rattle.std.proofs.lemmas.List.{length-take-le, take-take, take_all}
 use Rattle.outside.specs.Reads.{HasText, Reads, Source}

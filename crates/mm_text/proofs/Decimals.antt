@@ -1,5 +1,5 @@
 -- Numbers in decimal digits are words, and are read as these numbers.
-use Rattle.std.proofs.Common.{◌≡◌, ℕ, ◌+◌, ◌/◌, ◌%◌, ◌^◌, ◌<◌, ◌≤◌, zero, suc, ℤ, pos, negsuc, Bool, true, false, cond, ◌&&◌, [], ◌∷◌, Some, None, length, get_or, drop, nat_lt, ◌==◌, refl, ap, ◌∙◌, arith, decimal}
+use Rattle.std.proofs.Common.{◌≡◌, ℕ, ◌+◌, ◌/◌, ◌%◌, ◌^◌, ◌<◌, ◌≤◌, zero, suc, ℤ, pos, negsuc, Bool, true, false, cond, ◌&&◌, [], ◌∷◌, Some, length, get_or, drop, nat_lt, ◌==◌, refl, ap, ◌∙◌, arith, decimal}
 use Rattle.std.specs.Prelude.{neg_ℤ, unsigned_abs, option_map}
 use Rattle.std.specs.Int.{IsInRange}
 use Rattle.std.specs.Fmt.{digits, digits_onto, digit_glyph, signed_decimal}
@@ -12,6 +12,7 @@ use Rattle.std.proofs.lemmas.Str.Parse.{tells_all_ascii_digits, digit_from_value
 use Rattle.mm_text.specs.Limits.{widest}
 use Rattle.mm_text.specs.Lines.{Text, is_word}
 use Rattle.mm_text.specs.Numerals.{digits_of, count_of, value_of, with_sign_of, in_width}
+use Rattle.mm_text.specs.declared.reading.numerals.Number.TheVariants.{Value, TooWide}
 
 -- one byte or more, all behind the space
 abbrev pub is_visible : Text → Bool
@@ -95,8 +96,8 @@ pub value_of-signed_decimal : (z : ℤ) → unsigned_abs z < 10 ^ 64 → value_o
 value_of-signed_decimal (pos n) fits = value_of-pos n fits
 value_of-signed_decimal (negsuc n) fits = value_of-neg n fits
 
-pub in_width-narrow : (z : ℤ) → unsigned_abs z ≤ widest → in_width z ≡ Some z
-in_width-narrow z narrow = ap (λ (b : Bool). cond b None (Some z)) (le-ltb widest (unsigned_abs z) narrow)
+pub in_width-narrow : (z : ℤ) → unsigned_abs z ≤ widest → in_width z ≡ Value z
+in_width-narrow z narrow = ap (λ (b : Bool). cond b TooWide (Value z)) (le-ltb widest (unsigned_abs z) narrow)
 
 pub signed_decimal-visible : (z : ℤ) → is_visible (signed_decimal z) ≡ true
 signed_decimal-visible (pos n) = decimal-visible n

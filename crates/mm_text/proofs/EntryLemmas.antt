@@ -34,8 +34,8 @@ placed_same : (m : Mirror) (s : Sizes) (number : ℕ) (c : Cell) → c.row ≤ 2
 placed_same m s number c h k =
     let row : cut c.row ≡ c.row = omega arith in
     let col : cut c.col ≡ c.col = omega arith in
-    ap (λ r. entry_placed m s number (record { row = r; col = cut c.col; value = c.value })) row
-    ∙ ap (λ x. entry_placed m s number (record { row = c.row; col = x; value = c.value })) col
+    ap (λ r. entry_placed m s number (record { row = r; col = cut c.col; number = c.number })) row
+    ∙ ap (λ x. entry_placed m s number (record { row = c.row; col = x; number = c.number })) col
 
 placed_cut_some : (m : Mirror) (s : Sizes) (number : ℕ) (c : Cell) → s.rows ≤ most_rows → s.cols ≤ most_rows
     → entry_placed m s number (cut_cell c) ≡ entry_placed m s number c

@@ -12,10 +12,12 @@ use Rattle.mm_text.specs.declared.file_data.Line.{Line}
 use Rattle.mm_text.specs.declared.file_data.Mirror.{Mirror}
 use Rattle.mm_text.specs.declared.file_data.Mirror.TheVariants.{Negated}
 use Rattle.mm_text.specs.declared.reading.sizes.Sizes.{Sizes}
-use Rattle.mm_text.specs.Entries.{all_three, dense_value, entries_of, entry_by, entry_of, is_negated, is_out, narrow, pattern_cell, entry_placed, valued_cell}
+use Rattle.mm_text.specs.Entries.{all_three, dense_number, entries_of, entry_by, entry_of, is_negated, is_out, narrow, pattern_cell, entry_placed, valued_cell}
 use Rattle.mm_text.specs.Lines.{Text, one_word, three_words, two_words, words_of}
 use Rattle.mm_text.specs.Numerals.{count_of, in_width, value_of}
 use Rattle.mm_text.specs.Outcomes.{Outcome, ◌>>=◌, or_fault}
+use Rattle.mm_text.specs.declared.reading.numerals.Number.{Number}
+use Rattle.mm_text.specs.declared.reading.numerals.Number.TheVariants.{Value, TooWide}
 
 -- where there is a value, P holds of it
 pub record Good {A : Type 0} (P : A → Type 0) (r : Outcome A) : Type 0 where
@@ -44,11 +46,12 @@ good_or : {A : Type 0} (P : A → Type 0) (fault : MmFault) (o : Option A) → I
 good_or P fault (Some x) h = good_ok P x h
 good_or P fault None h = good_bad P fault
 
--- a value that is there is not too wide
-abbrev IsNarrow : Option ℤ → Type 0
-IsNarrow o = IfSome o (λ v. unsigned_abs v ≤ widest)
+-- a number that has a value is not too wide
+abbrev IsNarrow : Number → Type 0
+IsNarrow (Value v) = unsigned_abs v ≤ widest
+IsNarrow TooWide = Unit {0}
 
-narrow_test : (z : ℤ) (b : Bool) → ltb widest (unsigned_abs z) ≡ b → IsNarrow (cond b None (Some z))
+narrow_test : (z : ℤ) (b : Bool) → ltb widest (unsigned_abs z) ≡ b → IsNarrow (cond b TooWide (Value z))
 narrow_test z true e = tt
 narrow_test z false e = within widest (unsigned_abs z) e
   where
@@ -62,7 +65,7 @@ map_narrow : (o : Option ℤ) → IfSome (option_map in_width o) IsNarrow
 map_narrow (Some z) = in_width_narrow z
 map_narrow None = tt
 
-three_narrow : (i j : Option ℕ) (v : Option (Option ℤ)) → IfSome v IsNarrow → IfSome (all_three i j v) (λ c. IsNarrow c.value)
+three_narrow : (i j : Option ℕ) (v : Option Number) → IfSome v IsNarrow → IfSome (all_three i j v) (λ c. IsNarrow c.number)
 three_narrow (Some i) (Some j) (Some v) h = h
 three_narrow None j v h = tt
 three_narrow (Some i) None v h = tt
@@ -72,7 +75,7 @@ then_some : {A B : Type 0} (P : B → Type 0) (f : A → Option B) (o : Option A
 then_some P f (Some x) h = h x
 then_some P f None h = tt
 
-one_narrow : IsNarrow (Some (pos 1))
+one_narrow : IsNarrow (Value (pos 1))
 one_narrow = omega arith
 
 -- an entry of a file with these sizes and this symmetry
@@ -95,22 +98,22 @@ apart m i j e is = let at = subst (λ n. (is_negated n && eqb i j) ≡ false) is
     differ : (x y : ℕ) → eqb x y ≡ false → x ≢ y
     differ x y h = grind (arith, nat_tests)
 
-narrow_placed : (m : Mirror) (s : Sizes) (number i j : ℕ) (v : Option ℤ) → IsNarrow v → (0 < i) × (i ≤ s.rows) → (0 < j) × (j ≤ s.cols) → (m ≡ Negated → i ≢ j)
+narrow_placed : (m : Mirror) (s : Sizes) (number i j : ℕ) (v : Number) → IsNarrow v → (0 < i) × (i ≤ s.rows) → (0 < j) × (j ≤ s.cols) → (m ≡ Negated → i ≢ j)
     → Good (IsPlaced m s) (narrow number (i - 1) (j - 1) v)
-narrow_placed m s number i j (Some v) h row col apart' = good_ok (IsPlaced m s) _ (record {
+narrow_placed m s number i j (Value v) h row col apart' = good_ok (IsPlaced m s) _ (record {
   row = omega arith;
   col = omega arith;
   value = h;
   diagonal = λ is e. apart' is (omega (arith, row.0, col.0, e));
 })
-narrow_placed m s number i j None h row col apart' = good_bad (IsPlaced m s) _
+narrow_placed m s number i j TooWide h row col apart' = good_bad (IsPlaced m s) _
 
-placed_good : (m : Mirror) (s : Sizes) (number : ℕ) (c : Cell) → IsNarrow c.value → Good (IsPlaced m s) (entry_placed m s number c)
+placed_good : (m : Mirror) (s : Sizes) (number : ℕ) (c : Cell) → IsNarrow c.number → Good (IsPlaced m s) (entry_placed m s number c)
 placed_good m s number c h =
     good_cond (IsPlaced m s) (is_out s.rows c.row || is_out s.cols c.col) _ _ (λ _. good_bad (IsPlaced m s) _) (λ e.
     let in' = or_false (is_out s.rows c.row) (is_out s.cols c.col) e in
     good_cond (IsPlaced m s) (is_negated m && eqb c.row c.col) _ _ (λ _. good_bad (IsPlaced m s) _) (λ d.
-    narrow_placed m s number c.row c.col c.value h (in_range s.rows c.row in'.0) (in_range s.cols c.col in'.1) (apart m c.row c.col d)))
+    narrow_placed m s number c.row c.col c.number h (in_range s.rows c.row in'.0) (in_range s.cols c.col in'.1) (apart m c.row c.col d)))
 
 -- the entry with this number, counted from 0, of an array
 pub record IsDenseAt (s : Sizes) (at : ℕ) (line : Line) : Type 0 where
@@ -118,9 +121,9 @@ pub record IsDenseAt (s : Sizes) (at : ℕ) (line : Line) : Type 0 where
   pub col : line.col ≡ at / s.rows
   pub value : unsigned_abs line.value ≤ widest
 
-dense_good : (s : Sizes) (number at : ℕ) (v : Option ℤ) → IsNarrow v → Good (IsDenseAt s at) (narrow number (at % s.rows) (at / s.rows) v)
-dense_good s number at (Some v) h = good_ok (IsDenseAt s at) _ (record { row = refl; col = refl; value = h })
-dense_good s number at None h = good_bad (IsDenseAt s at) _
+dense_good : (s : Sizes) (number at : ℕ) (v : Number) → IsNarrow v → Good (IsDenseAt s at) (narrow number (at % s.rows) (at / s.rows) v)
+dense_good s number at (Value v) h = good_ok (IsDenseAt s at) _ (record { row = refl; col = refl; value = h })
+dense_good s number at TooWide h = good_bad (IsDenseAt s at) _
 
 -- an entry by its kind
 abbrev pub IsEntryBy : Kind → Mirror → Sizes → ℕ → Line → Type 0
@@ -130,18 +133,18 @@ IsEntryBy Dense m s at line = IsDenseAt s at line
 
 entry_by_good : (k : Kind) (m : Mirror) (s : Sizes) (number at : ℕ) (words : List Text) → Good (IsEntryBy k m s at) (entry_by k m s number at words)
 entry_by_good Valued m s number at words =
-    good_then (λ c. IsNarrow c.value) (IsPlaced m s) (or_fault (BadLine number) (valued_cell words)) (entry_placed m s number)
-    (good_or (λ c. IsNarrow c.value) (BadLine number) (valued_cell words)
-    (then_some (λ c. IsNarrow c.value) _ (three_words words) (λ w. three_narrow (count_of w.0) (count_of w.1) (option_map in_width (value_of w.2)) (map_narrow (value_of w.2)))))
+    good_then (λ c. IsNarrow c.number) (IsPlaced m s) (or_fault (BadLine number) (valued_cell words)) (entry_placed m s number)
+    (good_or (λ c. IsNarrow c.number) (BadLine number) (valued_cell words)
+    (then_some (λ c. IsNarrow c.number) _ (three_words words) (λ w. three_narrow (count_of w.0) (count_of w.1) (option_map in_width (value_of w.2)) (map_narrow (value_of w.2)))))
     (placed_good m s number)
 entry_by_good Pattern m s number at words =
-    good_then (λ c. IsNarrow c.value) (IsPlaced m s) (or_fault (BadLine number) (pattern_cell words)) (entry_placed m s number)
-    (good_or (λ c. IsNarrow c.value) (BadLine number) (pattern_cell words)
-    (then_some (λ c. IsNarrow c.value) _ (two_words words) (λ w. three_narrow (count_of w.0) (count_of w.1) (Some (Some (pos 1))) one_narrow)))
+    good_then (λ c. IsNarrow c.number) (IsPlaced m s) (or_fault (BadLine number) (pattern_cell words)) (entry_placed m s number)
+    (good_or (λ c. IsNarrow c.number) (BadLine number) (pattern_cell words)
+    (then_some (λ c. IsNarrow c.number) _ (two_words words) (λ w. three_narrow (count_of w.0) (count_of w.1) (Some (Value (pos 1))) one_narrow)))
     (placed_good m s number)
 entry_by_good Dense m s number at words =
-    good_then IsNarrow (IsDenseAt s at) (or_fault (BadLine number) (dense_value words)) (narrow number (at % s.rows) (at / s.rows))
-    (good_or IsNarrow (BadLine number) (dense_value words) (then_some IsNarrow _ (one_word words) (λ w. map_narrow (value_of w))))
+    good_then IsNarrow (IsDenseAt s at) (or_fault (BadLine number) (dense_number words)) (narrow number (at % s.rows) (at / s.rows))
+    (good_or IsNarrow (BadLine number) (dense_number words) (then_some IsNarrow _ (one_word words) (λ w. map_narrow (value_of w))))
     (dense_good s number at)
 
 -- the entries of lines, the first of them with this number

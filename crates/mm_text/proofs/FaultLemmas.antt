@@ -1,8 +1,7 @@
 -- A text has only faults of a text.
-use Rattle.std.proofs.Common.{◌≡◌, ℕ, ℤ, Bool, true, false, cond, List, [], ◌∷◌, Option, Some, None, Ok, Err, IfErr, take, drop, length, ◌+◌, leb}
+use Rattle.std.proofs.Common.{◌≡◌, ℕ, Bool, true, false, cond, List, [], ◌∷◌, Option, Some, None, Ok, Err, IfErr, take, drop, length, ◌+◌, leb}
 use Rattle.std.proofs.lemmas.Result.{IfErr-at_err}
 use Rattle.mm_text.specs.declared.profile.Profile.{Profile}
-use Rattle.mm_text.specs.Limits.{most_bytes}
 use Rattle.mm_text.specs.declared.reading.banner.Banner.{Banner}
 use Rattle.mm_text.specs.declared.reading.banner.Field.{Field}
 use Rattle.mm_text.specs.declared.reading.banner.Field.TheVariants as field
@@ -19,11 +18,13 @@ use Rattle.mm_text.specs.declared.file_data.Line.{Line}
 use Rattle.mm_text.specs.declared.file_data.Mirror.{Mirror}
 use Rattle.mm_text.specs.declared.reading.sizes.Sizes.{Sizes}
 use Rattle.mm_text.specs.Banner.{banner_of, field_named, form_named, kind_of, mirror_of, banner_named, object_named, same_form, banner_supported, symmetry_named}
-use Rattle.mm_text.specs.Entries.{dense_value, entries_of, entry_by, entry_of, narrow, pattern_cell, entry_placed, valued_cell}
+use Rattle.mm_text.specs.Entries.{dense_number, entries_of, entry_by, entry_of, narrow, pattern_cell, entry_placed, valued_cell}
 use Rattle.mm_text.specs.Lines.{Text, four_words, kept_from, lines_of, words_of}
 use Rattle.mm_text.specs.Outcomes.{IsTextFault, Outcome, ◌>>=◌, at_end, or_fault}
 use Rattle.mm_text.specs.Reading.{body_of, complete, entries_in, lines_read, no_more, reading, file_sized}
 use Rattle.mm_text.specs.Sizes.{sizes_announced, sizes_limited, sizes_of}
+use Rattle.mm_text.specs.declared.reading.numerals.Number.{Number}
+use Rattle.mm_text.specs.declared.reading.numerals.Number.TheVariants.{Value, TooWide}
 
 record Fits {A : Type 0} (r : Outcome A) : Type 0 where
   holds : IfErr r IsTextFault
@@ -98,12 +99,12 @@ sizes_fits : (banner : Banner) (profile : Profile) (words : List Text) → Fits 
 sizes_fits banner profile words =
     then_fits (or_fault BadSize (sizes_announced banner.kind words)) _ (or_fits BadSize (sizes_announced banner.kind words) tt) (limited_fits banner.mirror profile)
 
-narrow_fits : (number row col : ℕ) (value : Option ℤ) → Fits (narrow number row col value)
-narrow_fits number row col (Some value) = ok _
-narrow_fits number row col None = bad (NumberTooWide number) tt
+narrow_fits : (number row col : ℕ) (value : Number) → Fits (narrow number row col value)
+narrow_fits number row col (Value value) = ok _
+narrow_fits number row col TooWide = bad (NumberTooWide number) tt
 
 placed_fits : (m : Mirror) (s : Sizes) (number : ℕ) (c : Cell) → Fits (entry_placed m s number c)
-placed_fits m s number c = cond_fits _ _ _ (bad (OutOfRange number) tt) (cond_fits _ _ _ (bad (SkewDiagonal number) tt) (narrow_fits number _ _ c.value))
+placed_fits m s number c = cond_fits _ _ _ (bad (OutOfRange number) tt) (cond_fits _ _ _ (bad (SkewDiagonal number) tt) (narrow_fits number _ _ c.number))
 
 entry_by_fits : (k : Kind) (m : Mirror) (s : Sizes) (number at : ℕ) (words : List Text) → Fits (entry_by k m s number at words)
 entry_by_fits kind.Valued m s number at words =
@@ -111,7 +112,7 @@ entry_by_fits kind.Valued m s number at words =
 entry_by_fits kind.Pattern m s number at words =
     then_fits (or_fault (BadLine number) (pattern_cell words)) (entry_placed m s number) (or_fits (BadLine number) (pattern_cell words) tt) (placed_fits m s number)
 entry_by_fits kind.Dense m s number at words =
-    then_fits (or_fault (BadLine number) (dense_value words)) _ (or_fits (BadLine number) (dense_value words) tt) (narrow_fits number _ _)
+    then_fits (or_fault (BadLine number) (dense_number words)) _ (or_fits (BadLine number) (dense_number words) tt) (narrow_fits number _ _)
 
 entries_fit : (banner : Banner) (s : Sizes) (at : ℕ) (lines : List (ℕ × Text)) → Fits (entries_of banner s at lines)
 entries_fit banner s at [] = ok []

@@ -1,5 +1,5 @@
 -- Coordinate text is read as the file of its places.
-use Rattle.std.proofs.Common.{◌≡◌, ℕ, ◌+◌, ◌-◌, ◌^◌, ◌<◌, ◌≤◌, suc, ℤ, Bool, true, false, cond, ◌&&◌, ◌||◌, not, List, [], ◌∷◌, ◌++◌, Option, Some, None, Ok, Err, length, map, decimal, codes, refl, ap, ◌∙◌, arith, append_assoc, length-append}
+use Rattle.std.proofs.Common.{◌≡◌, ℕ, ◌+◌, ◌-◌, ◌^◌, ◌<◌, ◌≤◌, suc, Bool, true, false, cond, ◌&&◌, ◌||◌, not, List, [], ◌∷◌, ◌++◌, Option, Some, None, Ok, Err, length, map, decimal, codes, refl, ap, ◌∙◌, arith, append_assoc, length-append}
 use Rattle.std.specs.Prelude.{unsigned_abs, option_map}
 use Rattle.std.specs.Fmt.{signed_decimal}
 use Rattle.std.specs.List.{list_all, join_with_byte, enumerate_from}
@@ -28,6 +28,8 @@ use Rattle.std.proofs.lemmas.List.FromFn.{length-enumerate_from}
 use Rattle.mm_text.specs.declared.file_data.Form.TheVariants.{Coordinate}
 use Rattle.mm_text.specs.Reading.{reading, lines_read, file_sized, body_of}
 use Rattle.mm_text.proofs.Rereading.{joined, value_words-visible, are_entries, kept_from-entries, decimal-entry, in_width-written, sizes_limited-within, body_of-entries, reading-lines, length-lines_text}
+use Rattle.mm_text.specs.declared.reading.numerals.Number.{Number}
+use Rattle.mm_text.specs.declared.reading.numerals.Number.TheVariants.{Value}
 
 -- the number of the line after the comment of a part
 abbrev pub after_part : Option ℕ → ℕ
@@ -45,8 +47,8 @@ kept_from-part (Some rank) lines visible entries =
     let rest : List (ℕ × Text) = kept_from 3 (joined lines) in
     ap (λ (b : Bool). cond (not b) ((2, line) ∷ rest) rest) skipped ∙ kept_from-entries 3 lines visible entries
 
-all_three-is : (a b : Option ℕ) (c : Option (Option ℤ)) (i j : ℕ) (v : Option ℤ) → a ≡ Some i → b ≡ Some j →
-    c ≡ Some v → all_three a b c ≡ Some (record { row = i; col = j; value = v })
+all_three-is : (a b : Option ℕ) (c : Option Number) (i j : ℕ) (v : Number) → a ≡ Some i → b ≡ Some j →
+    c ≡ Some v → all_three a b c ≡ Some (record { row = i; col = j; number = v })
 all_three-is a b c i j v p q r =
     ap (λ (x : Option ℕ). all_three x b c) p ∙ ap (λ (x : Option ℕ). all_three (Some i) x c) q
     ∙ ap (all_three (Some i) (Some j)) r
@@ -55,7 +57,7 @@ is_out-inside : (size i : ℕ) → i < size → is_out size (i + 1) ≡ false
 is_out-inside size i inside = rw (ne_eqb (i + 1) 0 (λ e. omega (arith, e)), le-ltb size (i + 1) (omega arith)) refl
 
 entry_placed-inside : (s : Sizes) (number : ℕ) (cell : Shown) → cell.row < s.rows → cell.col < s.cols →
-    entry_placed Plain s number (record { row = cell.row + 1; col = cell.col + 1; value = Some cell.value })
+    entry_placed Plain s number (record { row = cell.row + 1; col = cell.col + 1; number = Value cell.value })
     ≡ Ok (entry_of_cell cell)
 entry_placed-inside s number cell row col =
     let line : ℕ → ℕ → Line = λ i j. record { row = i; col = j; value = cell.value } in
@@ -77,7 +79,7 @@ entry_of-cell : (s : Sizes) (number at : ℕ) (cell : Shown) → s.rows ≤ most
 entry_of-cell s number at cell rows_fit cols_fit row col value =
     ap (λ (o : Option Cell). or_fault (BadLine number) o >>= entry_placed Plain s number)
     (all_three-is (count_of (decimal (cell.row + 1))) (count_of (decimal (cell.col + 1)))
-    (option_map in_width (value_of (signed_decimal cell.value))) (cell.row + 1) (cell.col + 1) (Some cell.value)
+    (option_map in_width (value_of (signed_decimal cell.value))) (cell.row + 1) (cell.col + 1) (Value cell.value)
     (count_of-decimal (cell.row + 1) (omega arith)) (count_of-decimal (cell.col + 1) (omega arith))
     (in_width-written cell.value value))
     ∙ entry_placed-inside s number cell row col

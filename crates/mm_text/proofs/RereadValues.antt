@@ -24,6 +24,7 @@ use Rattle.std.proofs.lemmas.List.FromFn.{length-enumerate_from}
 use Rattle.mm_text.specs.declared.file_data.Form.TheVariants.{Array}
 use Rattle.mm_text.specs.Reading.{reading, lines_read, file_sized, body_of}
 use Rattle.mm_text.proofs.Rereading.{joined, value_words-visible, are_entries, kept_from-entries, decimal-entry, in_width-written, sizes_limited-within, body_of-entries, reading-lines}
+use Rattle.mm_text.specs.declared.reading.numerals.Number.{Number}
 
 abbrev array_banner : Banner
 array_banner = record { kind = Dense; mirror = Plain }
@@ -31,7 +32,7 @@ array_banner = record { kind = Dense; mirror = Plain }
 entry_of-value : (s : Sizes) (number at : ℕ) (value : ℤ) → unsigned_abs value ≤ widest →
     entry_of array_banner s number at (value_words value) ≡ Ok (entry_of_value s.rows (at, value))
 entry_of-value s number at value narrow_value =
-    ap (λ (o : Option (Option ℤ)). or_fault (BadLine number) o >>= narrow number (at % s.rows) (at / s.rows))
+    ap (λ (o : Option Number). or_fault (BadLine number) o >>= narrow number (at % s.rows) (at / s.rows))
     (in_width-written value narrow_value)
 
 entries_of-values : (s : Sizes) (number at : ℕ) (values : List ℤ) → AreNarrow values →

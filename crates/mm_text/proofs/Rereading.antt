@@ -22,6 +22,7 @@ use Rattle.mm_text.proofs.Splitting.{are_visible, words_of-words, lines_of-lines
 use Rattle.std.proofs.Math.Seq.{drop-length}
 use Rattle.std.proofs.lemmas.List.{take_all}
 use Rattle.mm_text.specs.Reading.{File, reading, lines_read, body_of, complete, no_more}
+use Rattle.mm_text.specs.declared.reading.numerals.Number.TheVariants.{Value}
 
 -- the lines of these words
 abbrev pub joined : List (List Text) → List Text
@@ -52,7 +53,7 @@ decimal-entry n words fits =
     ap not (ne_eqb (get_or (decimal n) 0 0) 37 (λ e. omega (arith, e, digit)))
 
 -- what is written of a value is read as this value
-pub in_width-written : (z : ℤ) → unsigned_abs z ≤ widest → option_map in_width (value_of (signed_decimal z)) ≡ Some (Some z)
+pub in_width-written : (z : ℤ) → unsigned_abs z ≤ widest → option_map in_width (value_of (signed_decimal z)) ≡ Some (Value z)
 in_width-written z narrow =
     ap (option_map in_width) (value_of-signed_decimal z (omega arith)) ∙ ap Some (in_width-narrow z narrow)
 

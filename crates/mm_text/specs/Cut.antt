@@ -10,4 +10,4 @@ abbrev pub cut_sizes : Sizes → Sizes
 cut_sizes s = record { rows = cut s.rows; cols = cut s.cols; count = cut s.count }
 
 abbrev pub cut_cell : Cell → Cell
-cut_cell c = record { row = cut c.row; col = cut c.col; value = c.value }
+cut_cell c = record { row = cut c.row; col = cut c.col; number = c.number }

@@ -1,7 +1,9 @@
 -- Counts and values in decimal digits.
-use Rattle.std.specs.Prelude.{ℕ, ℤ, pos, neg_ℤ, Option, Some, None, nat_lt, option_map, unsigned_abs, if◌then◌else◌}
+use Rattle.std.specs.Prelude.{ℕ, ℤ, pos, neg_ℤ, Option, nat_lt, option_map, unsigned_abs, if◌then◌else◌}
 use Rattle.std.specs.Str.Parse.{starts_with_minus, without_leading_plus, without_leading_sign}
 use Rattle.mm_text.specs.Limits.{widest}
+use Rattle.mm_text.specs.declared.reading.numerals.Number.{Number}
+use Rattle.mm_text.specs.declared.reading.numerals.Number.TheVariants.{Value, TooWide}
 use Rattle.mm_text.specs.Lines.{Text}
 pub use Rattle.text_lines.specs.Numerals.{digits_of}
 
@@ -17,5 +19,5 @@ abbrev pub value_of : Text → Option ℤ
 value_of word = option_map (with_sign_of word) (digits_of (without_leading_sign word))
 
 -- a value whose magnitude is not above the greatest
-abbrev pub in_width : ℤ → Option ℤ
-in_width value = if nat_lt widest (unsigned_abs value) then None else Some value
+abbrev pub in_width : ℤ → Number
+in_width value = if nat_lt widest (unsigned_abs value) then TooWide else Value value

@@ -1,31 +1,31 @@
 //! The entry lines.
 ghost use Rattle.std.specs.Prelude.{◌≡◌, ◌*◌, ◌<◌, ◌≤◌, option_map};
 ghost use Rattle.mm_text.specs.Cut.{cut_cell};
-ghost use Rattle.mm_text.specs.Entries.{entry_of_number, dense_value, entry_of, is_negated, is_out, narrow, pattern_cell, entry_placed, entry_of_cell, valued_cell};
+ghost use Rattle.mm_text.specs.Entries.{entry_of_number, dense_number, entry_of, is_negated, is_out, narrow, pattern_cell, entry_placed, entry_of_cell, valued_cell};
 ghost use Rattle.mm_text.specs.Limits.{most_rows};
 ghost use Rattle.mm_text.specs.Lines.{words_in, words_of};
 
 use crate::reading::banner::{Banner, Kind};
-use crate::reading::numerals::{count, value};
+use crate::reading::numerals::{Number, count, number_of};
 use crate::reading::sizes::Sizes;
 use crate::{Line, Mirror, MmFault};
 use text_lines::{one_word, three_words, two_words, without_return};
 
-/// A row and a column, counted from 1, and the value where it is not too wide.
+/// A row and a column, counted from 1, and the number there.
 #[derive(Clone, Copy)]
 pub struct Cell {
     pub row: u64,
     pub col: u64,
-    pub value: Option<i128>,
+    pub number: Number,
 }
 
 /// The entry at a place that is counted from 0.
-fn narrow(number: u32, row: u64, col: u64, value: Option<i128>) -> Result<Line, MmFault>
-    ensures { result ≡ narrow number row col value }
+fn narrow(line: u32, row: u64, col: u64, number: Number) -> Result<Line, MmFault>
+    ensures { result ≡ narrow line row col number }
 {
-    match value {
-        Some(value) => Ok(Line { row, col, value }),
-        None => Err(MmFault::NumberTooWide { line: number }),
+    match number {
+        Number::Value(value) => Ok(Line { row, col, value }),
+        Number::TooWide => Err(MmFault::NumberTooWide { line }),
     }
 }
 
@@ -57,18 +57,18 @@ fn entry_placed(mirror: Mirror, sizes: Sizes, number: u32, cell: Cell) -> Result
     if is_negated(mirror) && cell.row == cell.col {
         return Err(MmFault::SkewDiagonal { line: number });
     }
-    narrow(number, cell.row - 1, cell.col - 1, cell.value)
+    narrow(number, cell.row - 1, cell.col - 1, cell.number)
 }
 
 /// A place and a value; row and column are at most `u64::MAX`.
 fn valued_cell(bytes: &[u8]) -> Option<Cell>
     ensures { result ≡ option_map cut_cell (valued_cell (words_in bytes.now)) }
 {
-    let (row, col, number) = three_words(bytes)?;
+    let (row, col, word) = three_words(bytes)?;
     Some(Cell {
         row: count(row)?,
         col: count(col)?,
-        value: value(number)?,
+        number: number_of(word)?,
     })
 }
 
@@ -80,15 +80,15 @@ fn pattern_cell(bytes: &[u8]) -> Option<Cell>
     Some(Cell {
         row: count(row)?,
         col: count(col)?,
-        value: Some(1),
+        number: Number::Value(1),
     })
 }
 
-/// A value alone.
-fn dense_value(bytes: &[u8]) -> Option<Option<i128>>
-    ensures { result ≡ dense_value (words_in bytes.now) }
+/// A number alone.
+fn dense_number(bytes: &[u8]) -> Option<Number>
+    ensures { result ≡ dense_number (words_in bytes.now) }
 {
-    value(one_word(bytes)?)
+    number_of(one_word(bytes)?)
 }
 
 /// The entry of a place that may be missing.
@@ -109,16 +109,16 @@ fn entry_of_cell(
 /// The entry of an array, where `at` entries stand before it.
 fn entry_of_number(
     sizes: Sizes,
-    number: u32,
+    line: u32,
     at: u64,
-    value: Option<Option<i128>>,
+    number: Option<Number>,
 ) -> Result<Line, MmFault>
     requires { at < sizes.rows * sizes.cols }
-    ensures { result ≡ entry_of_number sizes number at value }
+    ensures { result ≡ entry_of_number sizes line at number }
 {
-    match value {
-        Some(value) => narrow(number, at % sizes.rows, at / sizes.rows, value),
-        None => Err(MmFault::BadLine { line: number }),
+    match number {
+        Some(number) => narrow(line, at % sizes.rows, at / sizes.rows, number),
+        None => Err(MmFault::BadLine { line }),
     }
 }
 
@@ -139,6 +139,6 @@ pub fn read_entry(
     match banner.kind {
         Kind::Valued => entry_of_cell(banner.mirror, sizes, number, valued_cell(bytes)),
         Kind::Pattern => entry_of_cell(banner.mirror, sizes, number, pattern_cell(bytes)),
-        Kind::Dense => entry_of_number(sizes, number, at, dense_value(bytes)),
+        Kind::Dense => entry_of_number(sizes, number, at, dense_number(bytes)),
     }
 }

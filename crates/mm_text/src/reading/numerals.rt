@@ -70,21 +70,29 @@ fn without_sign(word: &[u8]) -> &[u8]
     }
 }
 
-/// The value of a sign and a magnitude, where it is not too wide.
-fn signed_value(negative: bool, magnitude: u128) -> Option<i128>
+/// What a word of digits stands for.
+#[derive(Clone, Copy)]
+pub enum Number {
+    Value(i128),
+    /// Its magnitude is above the greatest.
+    TooWide,
+}
+
+/// The number of a sign and a magnitude.
+fn signed_number(negative: bool, magnitude: u128) -> Number
     ensures { result ≡ in_width (if negative then neg_ℤ (pos magnitude) else pos magnitude) }
 {
     if magnitude > WIDEST {
-        return None;
+        return Number::TooWide;
     }
     let value = magnitude as i128;
-    if negative { Some(-value) } else { Some(value) }
+    Number::Value(if negative { -value } else { value })
 }
 
-/// A value: decimal digits behind a plus, a minus or nothing. There is none within where its magnitude is too wide.
-pub fn value(word: &[u8]) -> Option<Option<i128>>
+/// A number: decimal digits behind a plus, a minus or nothing.
+pub fn number_of(word: &[u8]) -> Option<Number>
     ensures { result ≡ option_map in_width (value_of word.now) }
 {
     let magnitude = magnitude(without_sign(word))?;
-    Some(signed_value(is_negative(word), magnitude))
+    Some(signed_number(is_negative(word), magnitude))
 }

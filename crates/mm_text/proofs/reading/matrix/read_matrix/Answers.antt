@@ -1,8 +1,5 @@
-use Rattle.std.proofs.Common.{subst}
 use Rattle.std.proofs.lemmas.Result.{IfOk-weaker, err_from_is_err_and}
 use Rattle.mm_text.specs.Limits.{profile_of}
-use Rattle.mm_text.specs.Outcomes.{Gives}
-use Rattle.mm_text.specs.Reading.{file_of, reading}
 use Rattle.mm_text.proofs.AnswerLemmas.{fault_answer, file_answer, front_of, given_answer, kept_answer, no_text_fault, not_unread, reads_after, same_fault}
 use Rattle.mm_text.proofs.reading.matrix.read_matrix.Goals as goal
 

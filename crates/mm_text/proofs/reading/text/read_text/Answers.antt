@@ -1,4 +1,4 @@
-use Rattle.std.proofs.Common.{subst, sym, arith, ◌≡◌, length, take}
+use Rattle.std.proofs.Common.{subst, sym, arith}
 use Rattle.std.proofs.lemmas.List.{length-take-le}
 use Rattle.mm_text.specs.Outcomes.{Gives}
 use Rattle.mm_text.specs.Reading.{file_of}
