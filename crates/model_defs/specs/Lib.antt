@@ -12,3 +12,14 @@ pub mod Limits
 pub mod Naming
 pub mod Valid
 pub mod Fitting
+pub mod Transfers
+pub mod Phases
+pub mod Plans
+pub mod Stages
+pub mod Letters
+pub mod Machine
+pub mod Picks
+pub mod Sheets
+pub mod Traffic
+pub mod CompleteRuns
+pub mod Laws
