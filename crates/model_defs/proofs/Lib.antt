@@ -1,1 +1,6 @@
-pub mod Examples
+mod Examples
+pub mod ExampleJobs
+pub mod MoveExamples
+mod MatrixExamples
+mod ApplyExamples
+mod TextExamples
