@@ -36,3 +36,4 @@ pub mod Beyond
 pub mod Placed
 pub mod OwnCells
 pub mod SharedPlans
+pub mod Complete
