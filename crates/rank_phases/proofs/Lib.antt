@@ -3,6 +3,7 @@ pub mod Courses
 pub mod Filters
 pub mod Given
 pub mod Kept
+pub mod LiveBlocks
 pub mod Outboxes
 pub mod PairNames
 pub mod PhasedPeers

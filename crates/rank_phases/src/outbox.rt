@@ -111,10 +111,10 @@ impl Outbox {
         }
     }
 
-    /// How many letters there are.
-    pub(crate) fn len(&self) -> u64
+    /// How many blocks of the pool are lent: one for each letter.
+    pub(crate) fn live_blocks(&self) -> u64
         ensures { result ≡ length self.now }
     {
-        self.queue.len() as u64
+        self.pool.live()
     }
 }

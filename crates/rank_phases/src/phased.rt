@@ -229,11 +229,12 @@ impl<W: Worker + Drop> Phased<W> {
         &self.worker
     }
 
-    /// The number of blocks that are lent to queued letters: one for each. Takes no memory.
+    /// The number of blocks of the rank's pool that are lent: one for each letter that is queued, and no other. Takes no
+    /// memory.
     pub fn live_blocks(&self) -> u64
         ensures { result ≡ length (queued self.now) }
     {
-        self.queue.len()
+        self.queue.live_blocks()
     }
 }
 
