@@ -37,3 +37,7 @@ pub mod Placed
 pub mod OwnCells
 pub mod SharedPlans
 pub mod Complete
+pub mod Naming
+pub mod ValidExamples
+pub mod ValidMatrices
+mod LayoutExamples

@@ -103,17 +103,17 @@ module _ (job : Job) where
   pub phases-any : (v s : ℕ) (made : List Plan) (xs : List Act) → list_any (sends v s) (phases_from job made xs) ≡ list_any (is_send v s) xs
   phases-any v s made [] = refl
   phases-any v s made (MakePlan k plan ∷ xs) =
-      list_any-append (sends v s) (plan_phases job made k plan) (phases_from job (shared_plan job plan ∷ made) xs)
-      ∙ ap (λ z. z || list_any (sends v s) (phases_from job (shared_plan job plan ∷ made) xs)) (plan-none v s made k plan)
-      ∙ phases-any v s (shared_plan job plan ∷ made) xs
+      list_any-append (sends v s) (plan_phases job made k plan) (phases_from job (made ++ shared_plan job plan ∷ []) xs)
+      ∙ ap (λ z. z || list_any (sends v s) (phases_from job (made ++ shared_plan job plan ∷ []) xs)) (plan-none v s made k plan)
+      ∙ phases-any v s (made ++ shared_plan job plan ∷ []) xs
   phases-any v s made (Send k u ∷ xs) = ap (λ z. ((eqb k v) && (eqb u s)) || z) (phases-any v s made xs)
 
   phases-followed : (v s k t : ℕ) (made : List Plan) (xs : List Act) → IsFollowed (is_send v s) (is_send k t) xs → IsFollowed (sends v s) (sends k t) (phases_from job made xs)
   phases-followed v s k t made [] h = tt
   phases-followed v s k t made (MakePlan w plan ∷ xs) h =
-      followed-append (sends v s) (sends k t) (plan_phases job made w plan) (phases_from job (shared_plan job plan ∷ made) xs)
+      followed-append (sends v s) (sends k t) (plan_phases job made w plan) (phases_from job (made ++ shared_plan job plan ∷ []) xs)
       (followed-no_second (sends v s) (sends k t) (plan_phases job made w plan) (plan-none k t made w plan))
-      (phases-followed v s k t (shared_plan job plan ∷ made) xs h.1)
+      (phases-followed v s k t (made ++ shared_plan job plan ∷ []) xs h.1)
       (λ e. let gone = plan-none k t made w plan in absurd (let bad : ⊥ = cc in bad))
   phases-followed v s k t made (Send w u ∷ xs) h =
       ((λ e. ap (λ z. ((eqb w v) && (eqb u s)) || z) (phases-any v s made xs) ∙ h.0 e), phases-followed v s k t made xs h.1)

@@ -9,6 +9,9 @@ use Rattle.model_defs.specs.Maps.{is_uniform}
 use Rattle.model_defs.specs.Makers.{value_count}
 use Rattle.model_defs.specs.Shapes.{shape, Sort, Matrix, Split, is_dense}
 use Rattle.model_defs.specs.Transfers.{Plan, ImportPlan, ExportPlan, ColumnPlan, RowPlan, same_plan, shared_plan, owner_map, is_local, Transfer, transfers}
+pub use Rattle.model_defs.specs.declared.phase.About.{About}
+pub use Rattle.model_defs.specs.declared.phase.About.TheVariants.{RegisterMap, AskOwners, TellOwners, SharePlan, SendNumbers}
+pub use Rattle.model_defs.specs.declared.phase.Phase.{Phase}
 
 -- the plans of a new structure
 abbrev pub structure_plans : ℕ → Sort → List Plan
@@ -37,20 +40,6 @@ value_acts job k =
 
 abbrev pub acts : Job → List Act
 acts job = flat_map (value_acts job) (count_from 0 (value_count job))
-
--- What a phase is about: each rank registers its indices of a map, asks for the owners of those that it lacks, is told
--- them, says which it wants or offers, or sends the numbers of a transfer.
-pub data About : Type 0 where
-  RegisterMap : (m : ℕ) → About
-  AskOwners : Plan → About
-  TellOwners : Plan → About
-  SharePlan : Plan → About
-  SendNumbers : (stage : ℕ) → About
-
-pub record Phase : Type 0 where
-  pub kind : Kind
-  pub value : ℕ
-  pub about : About
 
 abbrev pub phase_for : ℕ → Kind → About → Phase
 phase_for value kind about = record { kind = kind; value = value; about = about }
@@ -83,7 +72,7 @@ send_kind job k = if is_dense (shape job k).sort then Nums else Rows
 -- the phases of these acts, where these plans were made before
 abbrev pub phases_from : Job → List Plan → List Act → List Phase
 phases_from job made [] = []
-phases_from job made (MakePlan k plan ∷ rest) = plan_phases job made k plan ++ phases_from job (shared_plan job plan ∷ made) rest
+phases_from job made (MakePlan k plan ∷ rest) = plan_phases job made k plan ++ phases_from job (made ++ shared_plan job plan ∷ []) rest
 phases_from job made (Send k stage ∷ rest) = phase_for k (send_kind job k) (SendNumbers stage) ∷ phases_from job made rest
 
 abbrev pub phases : Job → List Phase

@@ -2,15 +2,11 @@
 use Rattle.std.specs.Prelude.{ℕ, Bool, true, false, ◌==◌, if◌then◌else◌}
 use Rattle.model_defs.specs.declared.job.Job.{Job}
 use Rattle.model_defs.specs.declared.job.Step.TheVariants as step
+pub use Rattle.model_defs.specs.declared.shape.Sort.{Sort}
+pub use Rattle.model_defs.specs.declared.shape.Sort.TheVariants.{Vector, Parts, Matrix, Split}
+pub use Rattle.model_defs.specs.declared.shape.Shape.{Shape}
 use Rattle.model_defs.specs.Makers.{Maker, GivenVector, GivenParts, GivenMatrix, Made, maker_of, value_count}
 use Rattle.model_defs.specs.Turns.{Each, in_turn}
-
--- The sorts of values. Vectors and matrices are whole, parts and split matrices have a table for each rank.
-pub data Sort : Type 0 where
-  Vector : Sort
-  Parts : Sort
-  Matrix : Sort
-  Split : Sort
 
 -- vectors and parts have a number in each of their columns, matrices have places
 abbrev pub is_dense : Sort → Bool
@@ -26,15 +22,6 @@ is_by_rank _ = false
 abbrev pub is_split_sort : Sort → Bool
 is_split_sort Split = true
 is_split_sort _ = false
-
--- A value's maps by their numbers, its columns, and the matrix whose structure and plans it shares, which is itself where
--- it has its own.
-pub record Shape : Type 0 where
-  pub sort : Sort
-  pub rows : ℕ
-  pub domain : ℕ
-  pub columns : ℕ
-  pub structure : ℕ
 
 -- value k as a vector or parts on a map
 abbrev pub dense_shape : ℕ → Sort → ℕ → ℕ → Shape

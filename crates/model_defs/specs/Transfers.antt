@@ -4,15 +4,11 @@ use Rattle.model_defs.specs.declared.job.Job.{Job}
 use Rattle.model_defs.specs.Makers.{Maker, GivenMatrix, Made, maker_of}
 use Rattle.model_defs.specs.Shapes.{shape, is_split_sort}
 use Rattle.model_defs.specs.declared.job.Step.TheVariants as step
-
--- A plan joins a map in which each index has one owner with lists of the ranks that may overlap. By an import plan these
--- are the lists of the target map, by an export plan those of the source map, by the column plan of a structure the
--- columns of each rank's places, and by its row plan the rows of the lines that were dealt to each rank.
-pub data Plan : Type 0 where
-  ImportPlan : (source target : ℕ) → Plan
-  ExportPlan : (source target : ℕ) → Plan
-  ColumnPlan : (value : ℕ) → Plan
-  RowPlan : (value : ℕ) → Plan
+pub use Rattle.model_defs.specs.declared.phase.Plan.{Plan}
+pub use Rattle.model_defs.specs.declared.phase.Plan.TheVariants.{ImportPlan, ExportPlan, ColumnPlan, RowPlan}
+pub use Rattle.model_defs.specs.declared.phase.Way.{Way}
+pub use Rattle.model_defs.specs.declared.phase.Way.TheVariants.{FromOwners, ToOwners}
+pub use Rattle.model_defs.specs.declared.phase.Transfer.{Transfer}
 
 abbrev pub same_plan : Plan → Plan → Bool
 same_plan (ImportPlan s t) (ImportPlan u v) = (s == u) && (t == v)
@@ -39,15 +35,6 @@ abbrev pub is_local : Plan → Bool
 is_local (ImportPlan source target) = source == target
 is_local (ExportPlan source target) = source == target
 is_local _ = false
-
--- numbers go from the owners to those whose lists have the index, or the other way
-pub data Way : Type 0 where
-  FromOwners : Way
-  ToOwners : Way
-
-pub record Transfer : Type 0 where
-  pub plan : Plan
-  pub way : Way
 
 abbrev pub from_owners : Plan → Transfer
 from_owners plan = record { plan = plan; way = FromOwners }
