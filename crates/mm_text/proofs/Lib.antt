@@ -5,6 +5,7 @@ pub mod FaultLemmas
 pub mod AnswerLemmas
 pub mod EntrySoundLemmas
 pub mod SoundLemmas
+pub mod ReadAgainLemmas
 pub mod LawLemmas
 pub mod PieceLemmas
 pub mod ReadingLemmas

@@ -167,9 +167,9 @@ complete_good whole count entries rest =
     (λ e. good_weaker (λ all. all ≡ entries) (λ all. (all ≡ entries) × (count ≤ length entries)) (no_more whole entries rest) (λ all h. (h, below (length entries) count e)) (no_more_good whole entries rest))
 
 -- the entries of a file with these sizes
-record AreAll (banner : Banner) (s : Sizes) (entries : List Line) : Type 0 where
-  count : length entries ≡ s.count
-  each : (k : ℕ) (d : Line) → k < length entries → IsEntryBy banner.kind banner.mirror s k (get_or entries k d)
+pub record AreAll (banner : Banner) (s : Sizes) (entries : List Line) : Type 0 where
+  pub count : length entries ≡ s.count
+  pub each : (k : ℕ) (d : Line) → k < length entries → IsEntryBy banner.kind banner.mirror s k (get_or entries k d)
 
 all_of : (banner : Banner) (s : Sizes) (lines : List (ℕ × Text)) (entries : List Line) → AreEntries banner s 0 (take s.count lines) entries
     → s.count ≤ length entries → AreAll banner s entries
@@ -178,7 +178,7 @@ all_of banner s lines entries are h = record {
   each = λ k d l. let same : 0 + k ≡ k = omega arith in subst (λ n. IsEntryBy banner.kind banner.mirror s n (get_or entries k d)) same (are.each k d l);
 }
 
-entries_in_good : (whole : Bool) (banner : Banner) (s : Sizes) (lines : List (ℕ × Text)) → Good (AreAll banner s) (entries_in whole banner s lines)
+pub entries_in_good : (whole : Bool) (banner : Banner) (s : Sizes) (lines : List (ℕ × Text)) → Good (AreAll banner s) (entries_in whole banner s lines)
 entries_in_good whole banner s lines =
     good_then (AreEntries banner s 0 (take s.count lines)) (AreAll banner s) (entries_of banner s 0 (take s.count lines)) _
     (entries_good banner s 0 (take s.count lines)) (λ entries are.

@@ -9,4 +9,5 @@ pub mod Sizes
 pub mod Entries
 pub mod Reading
 pub mod Sound
+pub mod ReadAgain
 pub mod Cut

@@ -3,6 +3,7 @@ ghost use Rattle.std.specs.Prelude.{◌≡◌, ◌⊎◌, ℕ, List};
 ghost use Rattle.mm_text.specs.declared.fault.MmFault.{MmFault};
 ghost use Rattle.mm_text.specs.declared.profile.Profile.{Profile};
 ghost use Rattle.mm_text.specs.Outcomes.{IsTextFault};
+ghost use Rattle.mm_text.specs.ReadAgain.{TextsAreReadAgain};
 ghost use Rattle.mm_text.specs.Reading.{File, HasFault, IsFile};
 ghost use Rattle.mm_text.specs.Sound.{IsSound, KeepsLimits};
 ghost use Rattle.mm_text.specs.WrittenFiles.{CoordinateTextIsFile, ArrayTextIsFile};
@@ -36,6 +37,13 @@ pub fn sound_files()
 pub fn limited_files()
     ensures { (profile : Profile) (text : List ℕ) (file : File)
         → IsFile profile text file → KeepsLimits profile file }
+{}
+
+/// What the text of a file is in another form and within other limits follows from what was read of it: `WrongForm` where
+/// the forms differ, `BadSize` where rows or columns exceed the other limits, `TooManyEntries` where the entries do, and
+/// else the same file.
+pub fn texts_are_read_again()
+    ensures { TextsAreReadAgain }
 {}
 
 /// Coordinate text of places within its sizes is a Matrix Market file with just these entries, in the same order, and

@@ -23,6 +23,7 @@ mod writing;
 pub use fault::MmFault;
 pub use file_data::{FileData, Form, Line, Mirror};
 pub use outside::SinkFault;
-pub use reading::matrix::read_matrix;
+pub use reading::again::read_again;
+pub use reading::matrix::{parse_matrix, read_matrix};
 pub use shown::Shown;
 pub use writing::text::{write_array, write_coordinate};

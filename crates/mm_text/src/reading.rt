@@ -1,5 +1,6 @@
 //! The reader, from the bytes of a file to its entries.
 
+pub(crate) mod again;
 mod banner;
 mod entries;
 pub(crate) mod matrix;

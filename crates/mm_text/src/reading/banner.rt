@@ -121,7 +121,7 @@ fn mirror_of(kind: Kind, symmetry: Symmetry) -> Result<Mirror, MmFault>
 }
 
 /// Whether both forms are one.
-fn same_form(want: Form, form: Form) -> bool
+pub fn same_form(want: Form, form: Form) -> bool
     ensures { result ≡ same_form want form }
 {
     match (want, form) {

@@ -3,8 +3,8 @@ ghost use Rattle.std.specs.Prelude.{◌≡◌, ◌+◌, ◌<◌, ◌≤◌, ◌�
 ghost use Rattle.outside.specs.Bytes.{IsReadOf};
 ghost use Rattle.outside.specs.Reads.{HasText, Reads, Source};
 ghost use Rattle.mm_text.specs.Limits.{most_bytes, most_cols, most_rows, profile_of};
-ghost use Rattle.mm_text.specs.Outcomes.{IsTextFault};
-ghost use Rattle.mm_text.specs.Reading.{HasFault, IsFile, file_of};
+ghost use Rattle.mm_text.specs.Outcomes.{Gives, IsTextFault};
+ghost use Rattle.mm_text.specs.Reading.{HasFault, IsFile, file_of, reading};
 ghost use Rattle.mm_text.specs.Sound.{IsSound, KeepsLimits};
 
 use crate::profile::{MOST_BYTES, Profile};
@@ -115,4 +115,21 @@ pub fn read_matrix<F: Files>(
 {
     let bytes = read_front(alloc, files, name)?;
     read_text(alloc, &bytes, Profile::new(want, room, most))
+}
+
+/// The matrix of a text that is at hand, in the form that is wanted, with at most `most` rows and `room` entries: what
+/// [`read_matrix`] answers for a file of this text. `NoMem` comes where memory ran out.
+///
+/// The condition: `most` is at most 2^40.
+pub fn parse_matrix(
+    alloc: Global,
+    text: &[u8],
+    want: Form,
+    room: u32,
+    most: u64,
+) -> Result<FileData, MmFault>
+    requires { most ≤ most_rows }
+    ensures { Gives file_of result (reading (profile_of want room most) text.now) }
+{
+    read_text(alloc, text, Profile::new(want, room, most))
 }

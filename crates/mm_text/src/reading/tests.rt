@@ -1,7 +1,7 @@
 //! Small texts with what they are read as, and the reads that fail.
 use crate::profile::Profile;
 use crate::reading::text::read_text;
-use crate::{FileData, Form, MmFault, read_matrix};
+use crate::{FileData, Form, MmFault, parse_matrix, read_again, read_matrix};
 use outside::{Failed, Files};
 use std::alloc::Global;
 use std::test::Fail;
@@ -421,6 +421,28 @@ fn failed_reads(rt: HostRuntime) -> Result<(), Fail> {
             "1 1 Plain 1; 0 0 1"
         };
         assert_eq!(rt; in_words(alloc, found)?.as_str(), words);
+    }
+    Ok(())
+}
+
+/// What a text of 3 rows, 2 columns and 2 entries is, once it was read, in other forms and within other limits: what it
+/// is where it is read for the first time.
+#[test]
+fn texts_that_were_read(rt: HostRuntime) -> Result<(), Fail> {
+    let alloc = rt.alloc();
+    let text = b"%%MatrixMarket matrix coordinate integer general\n3 2 2\n1 1 5\n3 2 -1\n";
+    let file = parse_matrix(alloc, text, Form::Coordinate, 9, 9)?;
+    let cases = [
+        (Form::Coordinate, 2, 3, "3 2 Plain 2; 0 0 5; 2 1 -1"),
+        (Form::Array, 2, 3, "WrongForm"),
+        (Form::Coordinate, 1, 2, "BadSize"),
+        (Form::Coordinate, 1, 3, "TooManyEntries"),
+    ];
+    for (want, room, most, words) in cases {
+        let again = read_again(alloc, &file, Form::Coordinate, want, room, most);
+        assert_eq!(rt; in_words(alloc, again)?.as_str(), words);
+        let anew = parse_matrix(alloc, text, want, room, most);
+        assert_eq!(rt; in_words(alloc, anew)?.as_str(), words);
     }
     Ok(())
 }
