@@ -41,3 +41,4 @@ pub mod Naming
 pub mod ValidExamples
 pub mod ValidMatrices
 mod LayoutExamples
+pub mod ShapeLists

@@ -23,3 +23,4 @@ pub mod Sheets
 pub mod Traffic
 pub mod CompleteRuns
 pub mod Laws
+pub mod ShapeLists
