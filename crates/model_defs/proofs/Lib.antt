@@ -42,3 +42,5 @@ pub mod ValidExamples
 pub mod ValidMatrices
 mod LayoutExamples
 pub mod ShapeLists
+pub mod Bounds
+pub mod PhaseFacts

@@ -24,3 +24,5 @@ pub mod Traffic
 pub mod CompleteRuns
 pub mod Laws
 pub mod ShapeLists
+pub mod BoundLaws
+pub mod PhaseLaws
