@@ -41,3 +41,6 @@ pub mod Naming
 pub mod ValidExamples
 pub mod ValidMatrices
 mod LayoutExamples
+pub mod ShapeLists
+pub mod Bounds
+pub mod PhaseFacts

@@ -23,3 +23,6 @@ pub mod Sheets
 pub mod Traffic
 pub mod CompleteRuns
 pub mod Laws
+pub mod ShapeLists
+pub mod BoundLaws
+pub mod PhaseLaws

@@ -1,7 +1,9 @@
 //! The laws of what files stand for, and of the ranks that compute the values of a job, for every kind of number. Each
 //! function has an empty body: what it proves is its contract. No code is spoken of.
+ghost use Rattle.model_defs.specs.BoundLaws.{MapsAreLayouts, EntriesAreSmall, WidthsAreSmall, ValuesAreFew};
 ghost use Rattle.model_defs.specs.FileMatrix.{DealtMatricesAddUp};
 ghost use Rattle.model_defs.specs.Laws.{StagesAreInOrder, EntriesAreEarly, EarlierLetters, JobsAreProtocols, JobsCanRun, PlacesAreStructure, RowLaws, RowLawsSuffice, MachineIsEval, LayoutsDoNotMatter, EntriesArePlaced, OwnCellsAreSent, PlansAreShared};
+ghost use Rattle.model_defs.specs.PhaseLaws.{TransfersHavePhases, RegistrationsSayOwners};
 
 use scalar_laws::Scalar;
 
@@ -73,4 +75,24 @@ pub fn own_cells_are_sent<S: Scalar>()
 /// Matrices that share a structure have the same plans: of each rank the same lists.
 pub fn plans_are_shared()
     ensures { PlansAreShared }
+{}
+
+/// A valid job is small: whatever its number a map is a layout of at most 2^40 indices, the entries of letters are below 2^40, a
+/// matrix has at most 2^40 columns, and there are at most 264 values.
+pub fn jobs_are_small()
+    ensures maps { MapsAreLayouts }
+    ensures entries { EntriesAreSmall }
+    ensures widths { WidthsAreSmall }
+    ensures values { ValuesAreFew }
+{}
+
+/// Each transfer that is not local has a phase, which is for its value and sends its numbers.
+pub fn transfers_have_phases()
+    ensures { TransfersHavePhases }
+{}
+
+/// The registrations of a one-to-one map at the home of an index tell its owner: that of the owner has the index, and no
+/// other one (`Tpetra::Directory`).
+pub fn registrations_say_owners()
+    ensures { RegistrationsSayOwners }
 {}

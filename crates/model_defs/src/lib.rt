@@ -17,6 +17,7 @@ pub mod laws;
 mod lists;
 mod phase;
 mod shape;
+mod shape_list;
 mod sheets;
 
 pub use job::{Job, MapForm, MapSpec, MatrixSpec, Origin, PartsSpec, Step, VectorSpec};
@@ -24,5 +25,6 @@ pub use lists::{ListOf, Text};
 pub use mm_text::{FileData, Form, Line, Mirror, Shown};
 pub use phase::{About, Phase, Plan, Transfer, Way};
 pub use shape::{Shape, Sort};
+pub use shape_list::shapes;
 pub use sheets::{LetterLine, PhaseLine, Sheet, SheetKind};
 pub use tables::Cell;

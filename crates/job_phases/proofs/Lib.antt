@@ -1,0 +1,2 @@
+pub mod JobNames
+pub mod ByPhase
