@@ -118,18 +118,14 @@ impl<S: Scalar> MatrixFill<S> {
                 self.values[at] = changed(self.values[at], value, mode);
                 Ok(())
             }
-            Err(i) => match place(None, value, mode) {
-                None => Ok(()),
-                Some(number) => {
-                    make_place(
-                        &mut self.places[lid as usize],
-                        &mut self.values,
-                        i,
-                        col,
-                        number,
-                    )
-                }
-            },
+            Err(i) => {
+                let Some(number) = place(None, value, mode) else {
+                    return Ok(());
+                };
+                let row = &mut self.places[lid as usize];
+                make_place(row, &mut self.values, i, col, number)?;
+                Ok(())
+            }
         }
     }
 }

@@ -76,8 +76,8 @@ pub(crate) fn make_place<S: Scalar>(
 pub(crate) fn push_columns(list: &mut Vec<Gid>, places: &[Place]) -> Result<(), AllocError>
     ensures pushed { OnOk result (list.new.items ≡ list.old.items ++ columns_at places.now) }
 {
-    for place in places {
-        list.push(place.col)?;
+    for p in places {
+        list.push(p.col)?;
     }
     Ok(())
 }

@@ -1,0 +1,4 @@
+pub mod RowPlaces
+pub mod Numbers
+pub mod Kept
+pub mod Clauses
