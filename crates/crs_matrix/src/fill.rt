@@ -26,7 +26,7 @@ use std::rc::Rc;
 pub struct MatrixFill<S> {
     alloc: Global,
     rows: Rc<LocalMap>,
-    places: Vec<SmallVec<Place, 4>>,
+    places: Vec<SmallVec<Place, 8>>,
     values: Vec<S>,
 }
 
@@ -178,7 +178,7 @@ impl<S: Scalar> DistTarget<S> for MatrixFill<S> {
 }
 
 /// The columns of all rows, one row after the other. `Err` means that memory ran out.
-fn joined_columns(alloc: Global, rows: &[SmallVec<Place, 4>]) -> Result<Vec<Gid>, AllocError>
+fn joined_columns(alloc: Global, rows: &[SmallVec<Place, 8>]) -> Result<Vec<Gid>, AllocError>
     ensures all { IfOk result (λ all. all.items ≡ concat (map columns_at (places_of rows.now))) }
 {
     let mut all = Vec::new(alloc);

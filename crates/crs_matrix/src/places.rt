@@ -53,7 +53,7 @@ pub(crate) fn changed<S: Scalar>(old: S, value: S, mode: Mode) -> S
 /// Makes the place of a column, at an index of its row, with a number. `Err` means that memory ran out, and then nothing
 /// has changed.
 pub(crate) fn make_place<S: Scalar>(
-    places: &mut SmallVec<Place, 4>,
+    places: &mut SmallVec<Place, 8>,
     values: &mut Vec<S>,
     i: usize,
     col: Gid,
