@@ -3,3 +3,4 @@ pub mod Fills
 pub mod AllColumns
 pub mod Places
 pub mod ColumnLists
+pub mod Packed

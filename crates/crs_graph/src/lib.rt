@@ -19,6 +19,7 @@ mod column_order;
 mod columns;
 mod faults;
 mod fill;
+mod packed_rows;
 pub mod laws;
 #[cfg(test)]
 mod tests;
@@ -26,3 +27,4 @@ mod tests;
 pub use column_order::column_map;
 pub use faults::FillFault;
 pub use fill::GraphFill;
+pub use packed_rows::PackedRows;
