@@ -4,3 +4,7 @@ pub mod AllColumns
 pub mod Places
 pub mod ColumnLists
 pub mod Packed
+pub mod LocalColumns
+pub mod Searches
+pub mod Compressed
+pub mod GraphPlaces

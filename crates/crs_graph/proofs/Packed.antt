@@ -1,6 +1,6 @@
 -- Rows that stand one after the other in one list.
-use Rattle.std.proofs.Common.{◌≡◌, ℕ, zero, suc, ◌+◌, ◌-◌, ◌<◌, ◌≤◌, List, [], ◌∷◌, ◌++◌, length, get_or, take, drop, map, slice_range, refl, sym, ap, ◌∙◌, subst, arith, append_assoc, length-append}
-use Rattle.std.proofs.lemmas.List.{append-nil, length-map, map-append}
+use Rattle.std.proofs.Common.{◌≡◌, ℕ, zero, suc, ◌+◌, ◌-◌, ◌<◌, ◌≤◌, List, [], ◌∷◌, ◌++◌, length, get_or, take, drop, map, slice_range, refl, sym, ap, ◌∙◌, arith, append_assoc, length-append}
+use Rattle.std.proofs.lemmas.List.{append-nil, map_more, map-append}
 use Rattle.std.proofs.Math.Seq.{drop-append_seam, take-append_seam}
 use Rattle.crs_graph.specs.Packed.{joined, offsets_from, offsets_of, slices, slices_from, IsPacked}
 
@@ -22,8 +22,8 @@ slices_after pre n [] e = refl
 slices_after pre n (r ∷ rs) e =
     slices_first n (n + length r) rs (pre ++ (r ++ joined rs))
     ∙ (λ t. row_in pre r (joined rs) n e t
-      ∷ (ap (slices (offsets_from (n + length r) rs)) (sym (append_assoc pre r (joined rs)))
-        ∙ slices_after (pre ++ r) (n + length r) rs (ap (λ k. k + length r) e ∙ sym (length-append pre r))) t)
+    ∷ (ap (slices (offsets_from (n + length r) rs)) (sym (append_assoc pre r (joined rs)))
+    ∙ slices_after (pre ++ r) (n + length r) rs (ap (λ k. k + length r) e ∙ sym (length-append pre r))) t)
 
 -- rows are determined by their offsets and what stands in them
 pub slices-packed : {A : Type 0} (os : List ℕ) (xs : List A) (rs : List (List A)) → os ≡ offsets_of rs → xs ≡ joined rs → slices os xs ≡ rs
@@ -44,9 +44,9 @@ offsets_push : {A : Type 0} (n : ℕ) (rs : List (List A)) (r : List A) (m : ℕ
 offsets_push n [] r m e = ap (λ k. n ∷ k ∷ []) (sym e)
 offsets_push n (q ∷ rs) r m e =
     ap (λ os. n ∷ os) (offsets_push (n + length q) rs r m
-      (let all = length-append q (joined rs ++ r) in
-      let split : length ((q ++ joined rs) ++ r) ≡ length (q ++ (joined rs ++ r)) = ap length (append_assoc q (joined rs) r) in
-      omega arith))
+    (let all = length-append q (joined rs ++ r) in
+    let split : length ((q ++ joined rs) ++ r) ≡ length (q ++ (joined rs ++ r)) = ap length (append_assoc q (joined rs) r) in
+    omega arith))
 
 pub offsets-push : {A : Type 0} (rs : List (List A)) (r : List A) (m : ℕ) → m ≡ length (joined rs ++ r) → offsets_of (rs ++ r ∷ []) ≡ offsets_of rs ++ m ∷ []
 offsets-push rs r m e = offsets_push 0 rs r m (omega arith)
@@ -124,3 +124,59 @@ pushed os xs r ps ys m kept e f g =
     let all : ys ≡ joined (rs ++ r ∷ []) = e ∙ ap (λ zs. zs ++ r) kept.all ∙ sym (joined-push rs r) in
     let begin : ps ≡ offsets_of (rs ++ r ∷ []) = g ∙ ap (λ qs. qs ++ m ∷ []) kept.begin ∙ sym (offsets-push rs r m (f ∙ ap length (all ∙ joined-push rs r))) in
     record { rows = slices-packed ps ys (rs ++ r ∷ []) begin all; packed = IsPacked-of ps ys (rs ++ r ∷ []) begin all }
+
+-- where a row stands
+pub record IsBounded {A : Type 0} (os : List ℕ) (xs : List A) (l : ℕ) : Type 0 where
+  pub ordered : get_or os l 0 ≤ get_or os (l + 1) 0
+  pub within : get_or os (l + 1) 0 ≤ length xs
+  pub row : slice_range xs (get_or os l 0) (get_or os (l + 1) 0) ≡ get_or (slices os xs) l []
+
+pub bounded : {A : Type 0} (os : List ℕ) (xs : List A) (l : ℕ) → IsPacked os xs → l + 1 < length os → IsBounded os xs l
+bounded os xs l kept low =
+    let rs = slices os xs in
+    let many = ap length kept.begin ∙ length-offsets 0 rs in
+    let step = offset-next 0 rs l (omega arith) in
+    let next : l + 1 ≡ suc l = omega arith in
+    let first = ap (λ qs. get_or qs l 0) kept.begin in
+    let second = ap (λ qs. get_or qs (suc l) 0) kept.begin in
+    let last = ap (λ n. get_or os n 0) next in
+    let most = offset-within 0 rs (suc l) (omega arith) in
+    let all = ap length kept.all in
+    record {
+      ordered = omega arith;
+      within = omega arith;
+      row = ap (λ n. slice_range xs (get_or os l 0) (get_or os n 0)) next ∙ sym (slices-at os xs l (omega arith));
+    }
+
+pub length-slices : {A : Type 0} (os : List ℕ) (xs : List A) → IsPacked os xs → length os ≡ suc (length (slices os xs))
+length-slices os xs kept = ap length kept.begin ∙ length-offsets 0 (slices os xs)
+
+-- one more row of which something is made
+pub joined-more : {A B : Type 0} (f : List A → List B) (rs : List (List A)) (l k : ℕ) → k ≡ l + 1 → l < length rs
+    → joined (map f (take k rs)) ≡ joined (map f (take l rs)) ++ f (get_or rs l [])
+joined-more f rs l k e low =
+    ap (λ n. joined (map f (take n rs))) e
+    ∙ ap joined (map_more f rs l [] low)
+    ∙ joined-push (map f (take l rs)) (f (get_or rs l []))
+
+-- rows of the same lengths begin at the same places
+offsets_from-map : {A B : Type 0} (f : List A → List B) (n : ℕ) (rs : List (List A)) → ((l : ℕ) → l < length rs → length (f (get_or rs l [])) ≡ length (get_or rs l [])) → offsets_from n (map f rs) ≡ offsets_from n rs
+offsets_from-map f n [] same = refl
+offsets_from-map f n (r ∷ rs) same =
+    ap (λ os. n ∷ os) (ap (λ k. offsets_from (n + k) (map f rs)) (same 0 (omega arith)) ∙ offsets_from-map f (n + length r) rs (λ l low. same (suc l) (omega arith)))
+
+pub offsets-map : {A B : Type 0} (f : List A → List B) (rs : List (List A)) → ((l : ℕ) → l < length rs → length (f (get_or rs l [])) ≡ length (get_or rs l [])) → offsets_of (map f rs) ≡ offsets_of rs
+offsets-map f rs same = offsets_from-map f 0 rs same
+
+-- what is made of each element of all rows
+pub joined-map : {A B : Type 0} (f : A → B) (rs : List (List A)) → map f (joined rs) ≡ joined (map (map f) rs)
+joined-map f [] = refl
+joined-map f (r ∷ rs) = map-append f r (joined rs) ∙ ap (λ xs. map f r ++ xs) (joined-map f rs)
+
+pub map_rows : {A B : Type 0} (f g : List A → List B) (rs : List (List A)) → ((l : ℕ) → l < length rs → f (get_or rs l []) ≡ g (get_or rs l [])) → map f rs ≡ map g rs
+map_rows f g [] same = refl
+map_rows f g (r ∷ rs) same = (λ t. same 0 (omega arith) t ∷ map_rows f g rs (λ l low. same (suc l) (omega arith)) t)
+
+pub map-map : {A B C : Type 0} (f : B → C) (g : A → B) (rs : List A) → map f (map g rs) ≡ map (λ r. f (g r)) rs
+map-map f g [] = refl
+map-map f g (r ∷ rs) = ap (λ xs. f (g r) ∷ xs) (map-map f g rs)

@@ -1,5 +1,5 @@
 -- The structure of a sparse matrix: which places its rows have.
-use Rattle.std.specs.Prelude.{◌≡◌, ℕ, ◌<◌, Bool, true, false, List, [], length, map, Option, None, Some}
+use Rattle.std.specs.Prelude.{◌≡◌, ℕ, ◌<◌, Bool, false, List, [], length, map, Option, None, Some}
 use Rattle.std.specs.List.{concat, slice_index_or}
 use Rattle.map_core.specs.Layouts.{stands, local_index}
 use Rattle.map_core.specs.Classes.{index_at, place}
@@ -42,9 +42,11 @@ pub record IsGraph (g : Graph) : Type 0 where
   pub ascend : (l : ℕ) → IsAscending (graph_row g l)
   pub within : (l : ℕ) → AreBelow (length g.cols) (graph_row g l)
 
--- the structure of these rows of global columns, on a column map of the columns, of which the domain's come first and the
--- others by owner
+-- The structure of these rows of global columns: its column map has the columns of all rows, each once, the domain's first
+-- and the others by owner, and its rows have the columns of these rows and no others.
 pub record IsCompleted (rows : List ℕ) (columns : List (List ℕ)) (domain owners : List ℕ) (g : Graph) : Type 0 where
-  pub rows : g.rows ≡ rows
-  pub cols : IsColumnList domain (ascending (concat columns)) owners g.cols
-  pub columns : g.columns ≡ map (local_columns g.cols) columns
+  pub row_list : g.rows ≡ rows
+  pub col_list : IsColumnList domain (ascending (concat columns)) owners g.cols
+  pub once : AreDistinct g.cols
+  pub same : (k : ℕ) → stands k g.cols ≡ stands k (concat columns)
+  pub places : (l c : ℕ) → c < length g.cols → stands c (graph_row g l) ≡ stands (index_at g.cols c) (slice_index_or columns l [])

@@ -4,3 +4,4 @@ pub mod Faults
 pub mod ColumnMaps
 pub mod Packed
 pub mod Graphs
+pub mod Kept

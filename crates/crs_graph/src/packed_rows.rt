@@ -1,5 +1,5 @@
 //! Rows of columns, one after the other.
-ghost use Rattle.std.specs.Prelude.{◌≡◌, ◌++◌, ◌∷◌, [], ◌<◌, ◌^◌, OnOk, OnErr, IfOk};
+ghost use Rattle.std.specs.Prelude.{◌≡◌, ◌++◌, ◌∷◌, [], OnOk, OnErr, IfOk};
 ghost use Rattle.std.specs.List.{concat};
 ghost use Rattle.crs_graph.specs.Packed.{offsets_of};
 
@@ -28,11 +28,10 @@ impl Model for PackedRows {
 
 impl PackedRows {
     /// No rows, with room for so many. `Err` means that memory ran out.
-    pub fn with_capacity(alloc: Global, rows: usize) -> Result<PackedRows, AllocError>
-        requires room { rows < 2 ^ 32 }
+    pub fn with_capacity(alloc: Global, rows: u32) -> Result<PackedRows, AllocError>
         ensures empty { IfOk result (λ packed. packed ≡ []) }
     {
-        let mut offsets = Vec::with_capacity(alloc, rows + 1)?;
+        let mut offsets = Vec::with_capacity(alloc, rows as usize + 1)?;
         offsets.push(0)?;
         Ok(PackedRows {
             offsets,

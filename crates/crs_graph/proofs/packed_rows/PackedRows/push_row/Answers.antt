@@ -8,7 +8,7 @@ invariant_of-self-else-is_err c =
     let long = c.len.ensures ∙ c.extend_from_slice.new.self.ok.0 in
     let ok = c.is_err.ensures.negation ∙ ap not c.if-is_err.false in
     (pushed os c.self.inside.gids.items c.args.row.now _ _ c.len.result c.self.invariant c.in_ok-extend_from_slice.ensures.items long
-      (c.push.ensures.items ∙ ap (λ b. cond b (os ++ c.len.result ∷ []) os) ok)).packed
+    (c.push.ensures.items ∙ ap (λ b. cond b (os ++ c.len.result ∷ []) os) ok)).packed
 
 pub returns-clause-row : goal.returns-clause-row
 returns-clause-row c =
@@ -16,5 +16,5 @@ returns-clause-row c =
     let long = c.len.ensures ∙ c.extend_from_slice.new.self.ok.0 in
     let ok = c.is_err.ensures.negation ∙ ap not c.if-is_err.false in
     (pushed os c.self.inside.gids.items c.args.row.now _ _ c.len.result c.self.invariant c.in_ok-extend_from_slice.ensures.items long
-      (c.push.ensures.items ∙ ap (λ b. cond b (os ++ c.len.result ∷ []) os) ok)).rows
+    (c.push.ensures.items ∙ ap (λ b. cond b (os ++ c.len.result ∷ []) os) ok)).rows
     ∙ ap (λ rows. rows ++ c.args.row.now ∷ []) c.self.view_is
