@@ -33,6 +33,13 @@ module _ {S : Type 0} {R : Semiring S} (L : IsSemiring R) where
       ∙ sym (total-push joining f (take at columns) (get_or columns at 0))
       ∙ ap (total (if_there R.plus) f) (sym (take_more columns at 0 low)))
 
+  -- the number of a place
+  pub row-number : (columns : List ℕ) (numbers : List S) (at : ℕ) (n : S) → IsAscending columns → at < length columns → length numbers ≡ length columns
+      → n ≡ get_or numbers at n → number_at_place numbers (local_index columns (get_or columns at 0)) ≡ Some n
+  row-number columns numbers at n up low many is =
+      let place = local_index-from columns (get_or columns at 0) at (AreDistinct-ascending columns up) (slice_get-get_or columns at 0 low) in
+      ap (number_at_place numbers) place ∙ slice_get-get_or numbers at n (omega arith) ∙ ap Some (sym is)
+
   -- the term of a place
   pub row-term : (columns : List ℕ) (numbers : List S) (x : Table S) (k at : ℕ) (n v : S) → IsAscending columns → at < length columns → length numbers ≡ length columns
       → n ≡ get_or numbers at n → x (get_or columns at 0) k ≡ Some v

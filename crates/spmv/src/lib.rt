@@ -6,11 +6,14 @@
 //!
 //! ```text
 //! local_apply(&a, &x, &mut y);              // y += A x
+//! local_apply_transposed(&a, &y, &mut x);   // x += A^T y
 //! ```
 //!
 //! It stands on `crs_matrix` and `multivector`.
 #![tactic(auto)]
 
 mod apply;
+mod transposed;
 
 pub use apply::local_apply;
+pub use transposed::local_apply_transposed;
