@@ -9,9 +9,9 @@ use Rattle.std.proofs.lemmas.List.Sorted.{Contains-permutation, IsPermutation-ma
 use Rattle.std.proofs.lemmas.Map.Keys.{IsDistinct-IsPermutation}
 use Rattle.std.proofs.lemmas.Map.Made.{length-le_from_is_member}
 use Rattle.map_core.specs.Layouts.{stands, AreDistinct}
-use Rattle.map_core.proofs.Members.{and_true, AreDistinct-append, AreDistinct-filter, AreDistinct-from_set, AreDistinct-to_set, stands-append, stands-filter, stands-list_any}
+use Rattle.map_core.proofs.Members.{and_true, AreDistinct-append, AreDistinct-filter, AreDistinct-from_set, AreDistinct-to_set, both_true, stands_back, stands_front, stands-append, stands-filter, stands-list_any}
 use Rattle.crs_graph.specs.ColumnMaps.{foreign}
-use Rattle.crs_graph.proofs.AllColumns.{stands-from, stands-to}
+use Rattle.crs_graph.proofs.AllColumns.{same_test, stands-from, stands-to}
 
 -- one more column
 foreign_first : (b : Bool) (p : ℕ × ℕ) (xs ys zs : List (ℕ × ℕ)) → xs ≡ ys ++ zs → cond b xs (p ∷ xs) ≡ cond b ys (p ∷ ys) ++ zs
@@ -89,6 +89,24 @@ module _ (domain gs os : List ℕ) (others : List (ℕ × ℕ)) (same : length o
     | inl here ↦ (own_is g here).1
     | inr there ↦ (other_is g there).0
   ]
+
+  whole_has : (g : ℕ) → stands g gs ≡ true → stands g whole ≡ true
+  whole_has g h = elim (cases_Bool (stands g domain)) [
+    | inl on ↦ stands_front g own foreigners (stands-filter g (λ g. stands g gs) domain ∙ both_true (stands g domain) (stands g gs) on h)
+    | inr off ↦
+        let lacked = stands-filter g (λ g. not (stands g domain)) gs ∙ both_true (stands g gs) (not (stands g domain)) h (ap not off) in
+        stands_back g own foreigners (stands-IsPermutation foreigners (filter (λ g. not (stands g domain)) gs) g (IsPermutation-sym (filter (λ g. not (stands g domain)) gs) foreigners indices_moved) lacked)
+  ]
+    where
+      own : List ℕ
+      own = filter (λ g. stands g gs) domain
+
+      foreigners : List ℕ
+      foreigners = map (λ x. x.1) others
+
+  -- it has the columns and no others
+  pub whole_same : (g : ℕ) → stands g whole ≡ stands g gs
+  whole_same g = same_test (stands g whole) (stands g gs) (whole_within g) (whole_has g)
 
   pub whole_length : AreDistinct domain → AreDistinct gs → length whole ≤ length gs
   whole_length one two =

@@ -3,3 +3,8 @@ pub mod Fills
 pub mod AllColumns
 pub mod Places
 pub mod ColumnLists
+pub mod Packed
+pub mod LocalColumns
+pub mod Searches
+pub mod Compressed
+pub mod GraphPlaces

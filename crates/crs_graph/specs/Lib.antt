@@ -2,3 +2,6 @@ pub mod Ascending
 pub mod Fills
 pub mod Faults
 pub mod ColumnMaps
+pub mod Packed
+pub mod Graphs
+pub mod Kept

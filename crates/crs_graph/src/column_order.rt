@@ -22,6 +22,9 @@ pub fn column_map(
     requires few { length columns.now < 2 ^ 32 }
     requires each { length owners.now ≡ length columns.now }
     ensures list { IfOk result (λ map. IsColumnList domain.now columns.now owners.now map.value) }
+    ensures once { IfOk result (λ map. AreDistinct map.value) }
+    ensures same { IfOk result (λ map. (g : ℕ) → stands g map.value ≡ stands g columns.now) }
+    ensures as_many { IfOk result (λ map. length map.value ≤ length columns.now) }
 {
     let mut list = own_columns(alloc, columns, domain)?;
     let mut others = foreign_columns(alloc, columns, domain, owners)?;

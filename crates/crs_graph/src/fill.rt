@@ -1,12 +1,13 @@
 //! A structure under construction.
-ghost use Rattle.std.specs.Prelude.{◌≡◌, ◌<◌, [], ℕ, length, map, not, is_some, true, OnOk, OnErr, IfOk, IfErr};
-ghost use Rattle.std.specs.List.{concat, range_with_len};
+ghost use Rattle.std.specs.Prelude.{◌≡◌, ◌<◌, ◌^◌, [], ℕ, length, map, not, is_some, true, OnOk, OnErr, IfOk, IfErr};
+ghost use Rattle.std.specs.List.{range_with_len};
 ghost use Rattle.map_core.specs.Layouts.{local_index};
 ghost use Rattle.crs_graph.specs.Faults.{IsFillFault};
 ghost use Rattle.crs_graph.specs.Fills.{all_columns, columns_of, has_place, with_place};
+ghost use Rattle.crs_graph.specs.Graphs.{graph_has, IsCompleted};
 
-use crate::FillFault;
-use crate::columns::insert_column;
+use crate::columns::{distinct_columns, insert_column};
+use crate::{CrsGraph, FillFault, PackedRows};
 use map_core::{Gid, LocalMap};
 use smallvec::SmallVec;
 use std::alloc::{AllocError, Global};
@@ -70,20 +71,41 @@ impl GraphFill {
     pub fn columns(&self) -> Result<Vec<Gid>, AllocError>
         ensures columns { IfOk result (λ columns. columns.items ≡ all_columns self.now) }
     {
-        let mut columns = joined(self.alloc, &self.columns)?;
-        columns.sort()?;
-        columns.dedup();
+        let packed = packed_rows(self.alloc, self.rows.len(), &self.columns)?;
+        let columns = distinct_columns(self.alloc, packed.all())?;
         Ok(columns)
+    }
+
+    /// The structure with these places, and no others. Its column map lists first the columns that `domain` has, in its
+    /// order, then the others by owner, then by index (`Tpetra::CrsGraph::fillComplete`). There is one owner for each of
+    /// `columns`, of which there are fewer than 2^32. `Err` means that memory ran out, and the fill is given up.
+    pub fn fill_complete(
+        self,
+        domain: &LocalMap,
+        owners: &[u32],
+    ) -> Result<Rc<CrsGraph>, AllocError>
+        requires few { length (all_columns self) < 2 ^ 32 }
+        requires each { length owners.now ≡ length (all_columns self) }
+        ensures graph { IfOk result (λ graph. IsCompleted self.rows self.columns domain.now owners.now graph.value) }
+        ensures places { IfOk result (λ graph. (row col : ℕ) → graph_has graph.value row col ≡ has_place self row col) }
+    {
+        let packed = packed_rows(self.alloc, self.rows.len(), &self.columns)?;
+        let graph = CrsGraph::from_rows(self.alloc, self.rows, packed, domain, owners)?;
+        Ok(graph)
     }
 }
 
-/// The columns of all rows, one row after the other. `Err` means that memory ran out.
-fn joined(alloc: Global, rows: &[SmallVec<Gid, 8>]) -> Result<Vec<Gid>, AllocError>
-    ensures all { IfOk result (λ all. all.items ≡ concat (columns_of rows.now)) }
+/// The rows, of which there are `count`, one after the other. `Err` means that memory ran out.
+fn packed_rows(
+    alloc: Global,
+    count: u32,
+    rows: &[SmallVec<Gid, 8>],
+) -> Result<PackedRows, AllocError>
+    ensures rows { IfOk result (λ packed. packed ≡ columns_of rows.now) }
 {
-    let mut all = Vec::new(alloc);
+    let mut packed = PackedRows::with_capacity(alloc, count)?;
     for row in rows {
-        all.extend_from_slice(row.as_slice())?;
+        packed.push_row(row.as_slice())?;
     }
-    Ok(all)
+    Ok(packed)
 }

@@ -17,12 +17,17 @@
 
 mod column_order;
 mod columns;
+mod compress;
 mod faults;
 mod fill;
+mod graph;
 pub mod laws;
+mod packed_rows;
 #[cfg(test)]
 mod tests;
 
 pub use column_order::column_map;
 pub use faults::FillFault;
 pub use fill::GraphFill;
+pub use graph::CrsGraph;
+pub use packed_rows::PackedRows;

@@ -1,0 +1,19 @@
+use Rattle.std.proofs.Common.{length, map, sym, ap, ◌∙◌}
+use Rattle.std.specs.List.{concat}
+use Rattle.crs_graph.specs.Ascending.{ascending}
+use Rattle.crs_graph.proofs.AllColumns.{sorted_once}
+use Rattle.crs_matrix.specs.Rows.{all_columns}
+use Rattle.crs_matrix.specs.Stored.{columns_at, places_of}
+use Rattle.crs_matrix.proofs.Kept.{row-values}
+use Rattle.crs_matrix.proofs.Clauses.{columns-kept}
+use Rattle.crs_matrix.proofs.fill.MatrixFill.columns.Goals as goal
+
+pub returns : goal.returns
+returns g c =
+    let places = places_of c.self.inside.places.items in
+    record {
+      columns = sorted_once c.in_ok-columns.columns.items c.sort.new.self.items c.dedup.new.self.items c.in_ok-sort.ensures.permutation c.in_ok-sort.ensures.sorted c.dedup.ensures.filtered
+          ∙ ap ascending (c.in_ok-columns.ensures.all ∙ ap (λ vs. concat (map columns_at (places_of vs))) c.deref.ensures.value
+          ∙ ap concat (sym (columns-kept c.self.inside.values.items places (row-values c.self.inside.rows.value places (length c.self.inside.values.items) c.self.invariant))))
+          ∙ ap all_columns c.self.view_is;
+    }
