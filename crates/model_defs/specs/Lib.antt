@@ -1,2 +1,3 @@
 pub mod FileMatrix
 pub mod ShowText
+pub mod Operations

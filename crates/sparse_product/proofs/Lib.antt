@@ -1,0 +1,3 @@
+pub mod DenseRows
+pub mod Links
+pub mod Gathered
