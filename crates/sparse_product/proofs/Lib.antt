@@ -1,3 +1,4 @@
 pub mod DenseRows
 pub mod Links
 pub mod Gathered
+pub mod Added

@@ -7,6 +7,7 @@
 //! The crate stands on `crs_matrix` and on the definitions of `model_defs`; ranks stand on it.
 #![tactic(auto)]
 
+mod add;
 mod dense_row;
 mod gather;
 mod linked_rows;
