@@ -2,3 +2,4 @@ pub mod DenseRows
 pub mod Links
 pub mod Gathered
 pub mod Added
+pub mod Products
