@@ -1,5 +1,5 @@
 -- Compressed rows.
-use Rattle.std.proofs.Common.{◌≡◌, ℕ, ◌+◌, ◌<◌, ◌≤◌, true, List, [], length, get_or, map, inl, inr, sym, ap, ◌∙◌, subst, arith}
+use Rattle.std.proofs.Common.{◌≡◌, ℕ, suc, ◌+◌, ◌<◌, ◌≤◌, true, List, [], length, get_or, map, inl, inr, sym, ap, ◌∙◌, subst, arith}
 use Rattle.std.specs.List.{concat}
 use Rattle.std.proofs.lemmas.Bool.{cases_lt}
 use Rattle.std.proofs.lemmas.List.{get_or_past, get_or-map, length-map}
@@ -15,7 +15,7 @@ use Rattle.crs_graph.specs.Packed.{joined, offsets_of, slices, IsPacked}
 use Rattle.crs_graph.proofs.AllColumns.{ascending-ascends}
 use Rattle.crs_graph.proofs.Ascending.{AreDistinct-ascending}
 use Rattle.crs_graph.proofs.LocalColumns.{ascending-count, by_index-local, length-ascending, local-below, places-distinct}
-use Rattle.crs_graph.proofs.Packed.{joined-map, length-slices, map-map, map_rows, offsets-map, slices-packed, IsPacked-of}
+use Rattle.crs_graph.proofs.Packed.{joined-map, length-slices, map-map, offset-next, offset-within, map_rows, offsets-map, slices-packed, IsPacked-of}
 
 -- what holds of each row that is made of one, and of no row
 pub each_row : {A : Type 0} (P : List A → Type 0) (f : List ℕ → List A) (rs : List (List ℕ)) → P [] → ((l : ℕ) → P (f (get_or rs l []))) → (l : ℕ) → P (get_or (map f rs) l [])
@@ -146,12 +146,21 @@ offset_count rows cols os columns order g l kept is low =
     let same = ap (λ g. length g.rows) is in
     omega arith
 
-pub last_offset : (rows cols os columns order : List ℕ) (g : Graph) (l : ℕ) → IsKept rows cols os columns order → graph_of rows cols os columns ≡ g → l ≤ length g.rows → l < length os
-last_offset rows cols os columns order g l kept is low =
-    let many = length-slices os columns kept.packed in
+-- and ends within the list of all columns
+pub offset_bound : (rows cols os columns order : List ℕ) (g : Graph) (l : ℕ) → IsKept rows cols os columns order → graph_of rows cols os columns ≡ g → l < length g.rows
+    → get_or (offsets_of g.columns) l 0 + length (get_or g.columns l []) ≤ length columns
+offset_bound rows cols os columns order g l kept is low =
     let as_many = kept.graph.rows in
     let same = ap (λ g. length g.rows) is in
-    omega arith
+    let rs = slices os columns in
+    let next = offset-next 0 rs l (omega arith) in
+    let most = offset-within 0 rs (suc l) (omega arith) in
+    let all = ap length kept.packed.all in
+    let within : get_or (offsets_of rs) l 0 + length (get_or rs l []) ≤ length columns = omega arith in
+    subst (λ qs. get_or (offsets_of qs) l 0 + length (get_or qs l []) ≤ length columns) (ap (λ g. g.columns) is) within
+
+pub columns_count : (rows cols os columns order : List ℕ) (g : Graph) → IsKept rows cols os columns order → graph_of rows cols os columns ≡ g → length columns ≡ length (joined g.columns)
+columns_count rows cols os columns order g kept is = ap length kept.packed.all ∙ ap (λ g. length (joined g.columns)) is
 
 pub order_at : (rows cols os columns order : List ℕ) (g : Graph) (l : ℕ) → IsKept rows cols os columns order → graph_of rows cols os columns ≡ g → l < length g.rows
     → get_or (slices os order) l [] ≡ by_index g.cols (get_or g.columns l [])

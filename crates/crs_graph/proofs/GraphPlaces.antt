@@ -13,11 +13,18 @@ use Rattle.crs_graph.specs.Ascending.{ascending}
 use Rattle.crs_graph.specs.Fills.{has_local, has_place, row_columns, Fill}
 use Rattle.crs_graph.specs.Graphs.{graph_has, has_local_place, local_columns, Graph, IsCompleted}
 use Rattle.crs_graph.specs.ColumnMaps.{IsColumnList}
+use Rattle.crs_graph.proofs.Ascending.{stands-at}
 use Rattle.crs_graph.proofs.Compressed.{AreRows}
 use Rattle.crs_graph.proofs.LocalColumns.{local-has, placed}
 
+-- an index that has a local index stands there
+pub some_stands : (xs : List ℕ) (g l : ℕ) → local_index xs g ≡ Some l → stands g xs ≡ true
+some_stands xs g l e =
+    let there = global_index-from xs g l e in
+    stands-at xs g l (slice_get_within xs l g there) (get_or_from_slice_get xs l g 0 there)
+
 -- an index that has no local index does not stand there
-none_stands : (xs : List ℕ) (g : ℕ) → local_index xs g ≡ None → stands g xs ≡ false
+pub none_stands : (xs : List ℕ) (g : ℕ) → local_index xs g ≡ None → stands g xs ≡ false
 none_stands xs g none = elim (cases_Bool (stands g xs)) [
   | inl on ↦
       let low = (placed xs g on).within in

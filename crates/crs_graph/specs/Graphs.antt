@@ -1,11 +1,12 @@
 -- The structure of a sparse matrix: which places its rows have.
-use Rattle.std.specs.Prelude.{◌≡◌, ℕ, ◌<◌, Bool, false, List, [], length, map, Option, None, Some}
+use Rattle.std.specs.Prelude.{◌≡◌, ℕ, ◌+◌, ◌<◌, Bool, false, List, [], length, map, slice_index, Option, None, Some}
 use Rattle.std.specs.List.{concat, slice_index_or}
 use Rattle.map_core.specs.Layouts.{stands, local_index}
 use Rattle.map_core.specs.Classes.{index_at, place}
 use Rattle.tables.specs.Indices.{AreBelow, AreDistinct}
 use Rattle.crs_graph.specs.Ascending.{ascending, IsAscending}
 use Rattle.crs_graph.specs.ColumnMaps.{IsColumnList}
+use Rattle.crs_graph.specs.Packed.{offsets_of}
 
 -- the rows of the row map and the columns of the column map, as global indices, and for each row the local indices of its
 -- columns, ascending
@@ -50,3 +51,13 @@ pub record IsCompleted (rows : List ℕ) (columns : List (List ℕ)) (domain own
   pub once : AreDistinct g.cols
   pub same : (k : ℕ) → stands k g.cols ≡ stands k (concat columns)
   pub places : (l c : ℕ) → c < length g.cols → stands c (graph_row g l) ≡ stands (index_at g.cols c) (slice_index_or columns l [])
+
+-- where a row and a column stand, both global indices: place `at` of its row, which is place k of all, row after row
+pub record IsAt (g : Graph) (row col k : ℕ) : Type 0 where
+  pub lid : ℕ
+  pub col_lid : ℕ
+  pub at : ℕ
+  pub row_is : local_index g.rows row ≡ Some lid
+  pub col_is : local_index g.cols col ≡ Some col_lid
+  pub at_is : local_index (graph_row g lid) col_lid ≡ Some at
+  pub flat : k ≡ slice_index (offsets_of g.columns) lid + at

@@ -1,16 +1,16 @@
 //! The structure of a sparse matrix.
-ghost use Rattle.std.specs.Prelude.{◌≡◌, ◌<◌, ◌≤◌, ◌^◌, [], ℕ, true, length, map, nat_eq, position, slice_index, IfOk, IfSome};
+ghost use Rattle.std.specs.Prelude.{◌≡◌, ◌+◌, ◌<◌, ◌≤◌, ◌^◌, [], ℕ, true, length, map, is_some, nat_eq, position, slice_index, IfOk, IfSome};
 ghost use Rattle.std.specs.List.{concat, slice_index_or};
 ghost use Rattle.map_core.specs.Layouts.{stands, AreDistinct};
 ghost use Rattle.crs_graph.specs.Ascending.{ascending, IsAscending};
-ghost use Rattle.crs_graph.specs.Graphs.{by_index, graph_row, local_columns, IsCompleted, IsGraph};
-ghost use Rattle.crs_graph.specs.Packed.{offsets_of};
+ghost use Rattle.crs_graph.specs.Graphs.{by_index, graph_has, graph_row, local_columns, IsAt, IsCompleted, IsGraph};
+ghost use Rattle.crs_graph.specs.Packed.{joined, offsets_of};
 
 use crate::PackedRows;
 use crate::column_order::column_map;
 use crate::columns::distinct_columns;
 use crate::compress::{local_places, orders_of, row_of, sorted_rows};
-use map_core::LocalMap;
+use map_core::{Gid, LocalMap};
 use std::alloc::{AllocError, Global};
 use std::marker::Model;
 use std::rc::{Rc, RcSlice};
@@ -133,14 +133,23 @@ impl CrsGraph {
     }
 
     /// How many places the rows before this one have: where the numbers of a row begin that stand row after row, in the
-    /// order of its columns. For the number of rows it is the number of all places.
+    /// order of its columns. The row is a local index of the row map.
     #[inline]
     pub fn offset(&self, lid: u32) -> usize
-        requires known { lid ≤ length self.now.rows }
+        requires known { lid < length self.now.rows }
         ensures offset { result ≡ slice_index (offsets_of self.now.columns) lid }
-        ensures is_graph { IsGraph self.now }
+        ensures within { result + length (graph_row self.now lid) ≤ length (joined self.now.columns) }
+        ensures small { result + length (graph_row self.now lid) < 2 ^ 64 }
     {
+        let _ = self.columns.len();
         self.offsets.as_slice()[lid as usize]
+    }
+
+    /// How many places all rows have.
+    pub fn places(&self) -> usize
+        ensures places { result ≡ length (joined self.now.columns) }
+    {
+        self.columns.len()
     }
 
     /// The place of a column in a row, both local indices; `None` exactly where the row lacks it.
@@ -151,5 +160,25 @@ impl CrsGraph {
         ensures within { IfSome result (λ at. at < length (graph_row self.now lid)) }
     {
         self.row(lid).binary_search(&col).ok()
+    }
+
+    /// Which of all places, counted row after row, a row and a column have, both global indices; `None` exactly where the
+    /// structure lacks the place.
+    pub fn locate(&self, row: Gid, col: Gid) -> Option<usize>
+        ensures found { IfSome result (IsAt self.now row col) }
+        ensures within { IfSome result (λ at. at < length (joined self.now.columns)) }
+        ensures there { is_some result ≡ graph_has self.now row col }
+        ensures is_graph { IsGraph self.now }
+    {
+        let Some(lid) = self.rows.local_of(row) else {
+            return None;
+        };
+        let Some(col_lid) = self.cols.local_of(col) else {
+            return None;
+        };
+        let Some(at) = self.find(lid, col_lid) else {
+            return None;
+        };
+        Some(self.offset(lid) + at)
     }
 }

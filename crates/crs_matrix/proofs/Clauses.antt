@@ -1,10 +1,10 @@
 -- What the calls of a matrix under construction say of its model, from what they did to its fields.
-use Rattle.std.proofs.Common.{◌≡◌, ℕ, zero, suc, ◌+◌, ◌<◌, ◌≤◌, Bool, true, false, cond, eqb, ◌&&◌, List, [], ◌∷◌, ◌++◌, length, map, get_or, set, Option, Some, None, Result, Ok, Err, OnErr, refl, sym, ap, subst, ◌∙◌, arith, length-set, length-append, rules}
+use Rattle.std.proofs.Common.{◌≡◌, ℕ, zero, suc, ◌+◌, ◌<◌, ◌≤◌, Bool, true, false, cond, eqb, ◌&&◌, List, [], ◌∷◌, ◌++◌, length, map, get_or, set, Option, Some, None, refl, sym, ap, subst, ◌∙◌, arith, length-append}
 use Rattle.std.specs.Prelude.{slice_get}
 use Rattle.std.specs.List.{insert}
 use Rattle.std.specs.List.Sorted.{IsStrictlyIncreasing}
 use Rattle.std.proofs.lemmas.Bool.{and_parts, eqb-true, eq-eqb}
-use Rattle.std.proofs.lemmas.Option.{slice_get_read, get_or_from_slice_get, slice_get_within}
+use Rattle.std.proofs.lemmas.Option.{slice_get_read}
 use Rattle.scalar_laws.specs.Semiring.{Semiring, IsSemiring}
 use Rattle.tables.specs.Sums.{both_or_one}
 use Rattle.tables.specs.Tables.{with_place}
@@ -13,11 +13,11 @@ use Rattle.map_core.proofs.Places.{global_index-from}
 use Rattle.combine_modes.specs.declared.mode.Mode.{Mode}
 use Rattle.combine_modes.specs.declared.mode.Mode.TheVariants.{Add}
 use Rattle.combine_modes.specs.Modes.{after_one}
-use Rattle.distributor.specs.Entries.{Entry, entry_at, columns_of, with_cell}
-use Rattle.crs_graph.specs.Ascending.{IsAbove, IsAscending}
+use Rattle.distributor.specs.Entries.{entry_at, columns_of, with_cell}
+use Rattle.crs_graph.specs.Ascending.{IsAscending}
 use Rattle.crs_graph.proofs.Ascending.{above_at, ascending_tail}
 use Rattle.crs_matrix.specs.declared.places.Place.{Place}
-use Rattle.crs_matrix.specs.Rows.{columns_in, entries_of, local_table, number_in, number_at, row_entries, row_table, RowCells, IsRowCells}
+use Rattle.crs_matrix.specs.Rows.{columns_in, entries_of, local_table, number_in, row_entries, row_table, RowCells}
 use Rattle.crs_matrix.specs.Stored.{cells_at, columns_at, no_place, stored, AreWithin, IsGap, IsStored}
 use Rattle.crs_matrix.proofs.RowPlaces.{gap-none, place_at, within-at}
 use Rattle.crs_matrix.proofs.Numbers.{cell-at, changed-number, columns-cells_at, kept_number, kept-number, kept-row, length-cells_at, made-number, read}

@@ -1,8 +1,8 @@
 -- What holds of the fields of a matrix under construction.
-use Rattle.std.proofs.Common.{◌≡◌, ℕ, zero, suc, ◌+◌, ◌<◌, ◌≤◌, Bool, true, false, cond, eqb, ◌&&◌, List, [], ◌∷◌, ◌++◌, length, map, get_or, set, Option, Some, None, Result, Ok, Err, OnErr, rules, refl, sym, ap, subst, ◌∙◌, arith, length-set, length-append, inl, inr, get_or-set_same, get_or-set_other}
+use Rattle.std.proofs.Common.{◌≡◌, ℕ, zero, suc, ◌+◌, ◌<◌, ◌≤◌, true, false, cond, List, [], ◌∷◌, ◌++◌, length, map, get_or, set, Some, Result, Ok, Err, OnErr, rules, refl, sym, ap, subst, ◌∙◌, arith, length-set, length-append, inl, inr, get_or-set_same, get_or-set_other}
 use Rattle.std.specs.Prelude.{is_some}
 use Rattle.std.specs.List.{insert}
-use Rattle.std.proofs.lemmas.Bool.{cases_eq, eqb-true, eq-eqb, ne_eqb}
+use Rattle.std.proofs.lemmas.Bool.{cases_eq, eq-eqb}
 use Rattle.std.proofs.lemmas.List.{get_or-map, length-map, map-set, set-get_or}
 use Rattle.smallvec.specs.SmallVec.{SmallVec}
 use Rattle.scalar_laws.specs.Semiring.{Semiring}
@@ -11,9 +11,9 @@ use Rattle.combine_modes.specs.declared.mode.Mode.TheVariants.{Insert, Replace, 
 use Rattle.combine_modes.specs.Modes.{after_one}
 use Rattle.crs_graph.specs.Ascending.{IsAscending}
 use Rattle.crs_matrix.specs.declared.places.Place.{Place}
-use Rattle.crs_matrix.specs.Rows.{columns_in, number_at, IsRowCells}
-use Rattle.crs_matrix.specs.Stored.{cells_at, columns_at, no_place, places_of, stored, AreWithin, ArePlaced, IsGap, IsStored}
-use Rattle.crs_matrix.proofs.RowPlaces.{ArePlaced-within, ascending-insert, owner_with, placed-insert, placed-more, within-at}
+use Rattle.crs_matrix.specs.Rows.{columns_in, IsRowCells}
+use Rattle.crs_matrix.specs.Stored.{cells_at, columns_at, places_of, stored, AreWithin, ArePlaced, IsGap, IsStored}
+use Rattle.crs_matrix.proofs.RowPlaces.{ArePlaced-within, ascending-insert, owner_with, placed-insert, placed-more}
 use Rattle.crs_matrix.proofs.Numbers.{cells_at-push, columns-cells_at, kept-row}
 
 -- a place that is there stays

@@ -1,5 +1,5 @@
 -- The numbers of a matrix under construction as a table.
-use Rattle.std.proofs.Common.{◌≡◌, ℕ, zero, suc, ◌+◌, ◌<◌, ◌≤◌, Bool, true, false, cond, eqb, ◌&&◌, List, [], ◌∷◌, ◌++◌, length, map, get_or, set, Option, Some, None, refl, sym, ap, subst, ◌∙◌, arith, inl, inr, length-set, get_or-set_same, get_or-set_other}
+use Rattle.std.proofs.Common.{◌≡◌, ℕ, zero, suc, ◌<◌, ◌≤◌, Bool, true, false, cond, eqb, ◌&&◌, List, [], ◌∷◌, ◌++◌, length, map, get_or, set, Option, Some, None, refl, sym, ap, subst, ◌∙◌, arith, inl, inr, length-set, get_or-set_same, get_or-set_other}
 use Rattle.std.specs.Prelude.{slice_get, is_some}
 use Rattle.std.specs.List.{insert}
 use Rattle.std.proofs.lemmas.Bool.{cases_eq, eqb-true, eq-eqb, ne_eqb, and_parts, false≢true}
@@ -7,7 +7,7 @@ use Rattle.std.proofs.Math.ListN.{get_or-map}
 use Rattle.crs_matrix.specs.declared.places.Place.{Place}
 use Rattle.crs_matrix.specs.Rows.{number_at}
 use Rattle.crs_matrix.specs.Stored.{cells_at, cell_before, no_place, AreWithin, ArePlaced}
-use Rattle.crs_matrix.proofs.RowPlaces.{place_at, place_at-insert, placed-at, within-more, ArePlaced-within}
+use Rattle.crs_matrix.proofs.RowPlaces.{place_at, place_at-insert, placed-at, ArePlaced-within}
 
 module _ {S : Type 0} where
   -- ---- one number of a list

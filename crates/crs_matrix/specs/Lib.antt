@@ -1,2 +1,5 @@
 pub mod Rows
 pub mod Stored
+pub mod Matrices
+pub mod RowFaults
+pub mod Completed

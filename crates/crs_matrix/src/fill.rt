@@ -1,17 +1,21 @@
 //! A matrix under construction.
-ghost use Rattle.std.specs.Prelude.{◌≡◌, ◌<◌, ◌++◌, [], ℕ, false, length, map, is_some, true, Some, OnOk, OnErr, IfOk, IfErr};
+ghost use Rattle.std.specs.Prelude.{◌≡◌, ◌<◌, ◌^◌, ◌++◌, [], ℕ, false, length, map, is_some, true, Some, OnOk, OnErr, IfOk, IfErr};
 ghost use Rattle.std.specs.List.{concat};
 ghost use Rattle.tables.specs.Sums.{both_or_one};
 ghost use Rattle.tables.specs.Tables.{with_place};
 ghost use Rattle.map_core.specs.Layouts.{local_index};
 ghost use Rattle.distributor.specs.Entries.{with_cell};
 ghost use Rattle.crs_graph.specs.Faults.{IsFillFault};
-ghost use Rattle.crs_matrix.specs.Rows.{all_columns, has_row, local_table, row_entries, row_table, HasSameRows, IsRowCells};
+ghost use Rattle.crs_graph.specs.Graphs.{IsCompleted};
+ghost use Rattle.crs_matrix.specs.Matrices.{crs_table};
+ghost use Rattle.crs_matrix.specs.Rows.{all_columns, columns_in, has_row, local_table, row_entries, row_table, HasSameRows, IsRowCells};
 ghost use Rattle.crs_matrix.specs.Stored.{columns_at, places_of};
 
+use crate::CrsMatrix;
+use crate::complete::{packed_columns, stored_numbers};
 use crate::places::{Place, changed, find_place, make_place, number_of, push_columns};
 use combine_modes::{Mode, place};
-use crs_graph::FillFault;
+use crs_graph::{CrsGraph, FillFault};
 use distributor::{DistSource, DistTarget};
 use map_core::{Gid, LocalMap};
 use scalar_laws::Scalar;
@@ -94,6 +98,25 @@ impl<S: Scalar> MatrixFill<S> {
         columns.sort()?;
         columns.dedup();
         Ok(columns)
+    }
+
+    /// The matrix with these places and numbers, and no others (`Tpetra::CrsMatrix::fillComplete`). Its column map lists first
+    /// the columns that `domain` has, in its order, then the others by owner, then by index. There is one owner for each of
+    /// `columns`, of which there are fewer than 2^32. `Err` means that memory ran out, and the fill is given up.
+    pub fn fill_complete(
+        self,
+        domain: &LocalMap,
+        owners: &[u32],
+    ) -> Result<CrsMatrix<S>, AllocError>
+        requires few { length (all_columns self) < 2 ^ 32 }
+        requires each { length owners.now ≡ length (all_columns self) }
+        ensures graph { IfOk result (λ matrix. IsCompleted self.rows (map columns_in self.cells) domain.now owners.now matrix.graph) }
+        ensures table { IfOk result (λ matrix. crs_table matrix ≡ row_table self) }
+    {
+        let packed = packed_columns(self.alloc, self.rows.len(), &self.places)?;
+        let graph = CrsGraph::from_rows(self.alloc, self.rows, packed, domain, owners)?;
+        let values = stored_numbers(self.alloc, &graph, &self.places, &self.values)?;
+        Ok(CrsMatrix::on_graph(self.alloc, graph, values))
     }
 
     /// The map on whose indices its rows are.

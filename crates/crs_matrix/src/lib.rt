@@ -16,9 +16,14 @@
 //! What computes with matrices stands on it.
 #![tactic(auto)]
 
+mod complete;
 mod fill;
+mod matrix;
 mod places;
+mod row_fault;
 #[cfg(test)]
 mod tests;
 
 pub use fill::MatrixFill;
+pub use matrix::CrsMatrix;
+pub use row_fault::RowFault;

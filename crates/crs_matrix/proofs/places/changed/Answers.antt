@@ -1,4 +1,4 @@
-use Rattle.std.proofs.Common.{◌≡◌, ap, sym, ◌∙◌, false, true}
+use Rattle.std.proofs.Common.{◌≡◌, ap, ◌∙◌, false, true}
 use Rattle.std.specs.Prelude.{is_some}
 use Rattle.crs_matrix.proofs.Kept.{after_one-there}
 use Rattle.crs_matrix.proofs.places.changed.Goals as goal

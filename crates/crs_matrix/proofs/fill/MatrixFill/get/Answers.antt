@@ -1,4 +1,4 @@
-use Rattle.std.proofs.Common.{◌≡◌, ◌<◌, length, get_or, [], sym, ap, subst, ◌∙◌, arith}
+use Rattle.std.proofs.Common.{length, sym, ap, subst, ◌∙◌, arith}
 use Rattle.map_core.specs.Layouts.{local_index}
 use Rattle.crs_graph.specs.Ascending.{IsAscending}
 use Rattle.crs_matrix.specs.Rows.{number_at, number_in, row_table}

@@ -1,5 +1,4 @@
-use Rattle.std.proofs.Common.{◌≡◌, ◌<◌, ◌≤◌, Some, length, get_or, set, [], ◌∷◌, ◌++◌, sym, ap, subst, ◌∙◌, arith, length-append}
-use Rattle.std.specs.List.{insert}
+use Rattle.std.proofs.Common.{◌≡◌, ◌<◌, ◌≤◌, Some, length, get_or, set, [], sym, ap, subst, ◌∙◌, arith}
 use Rattle.crs_graph.specs.Ascending.{IsAscending}
 use Rattle.crs_matrix.specs.Rows.{RowCells}
 use Rattle.crs_matrix.specs.Stored.{columns_at, no_place, places_of, stored, AreWithin, IsGap, IsStored}

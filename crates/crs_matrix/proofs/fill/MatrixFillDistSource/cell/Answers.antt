@@ -1,4 +1,4 @@
-use Rattle.std.proofs.Common.{◌≡◌, ◌<◌, length, get_or, [], refl, sym, ap, subst, ◌∙◌, arith}
+use Rattle.std.proofs.Common.{◌<◌, length, ap, subst, arith}
 use Rattle.crs_matrix.specs.Stored.{places_of, AreWithin}
 use Rattle.crs_matrix.proofs.RowPlaces.{within-at}
 use Rattle.crs_matrix.proofs.Kept.{row-is, row-values, row-within}

@@ -1,4 +1,4 @@
-use Rattle.std.proofs.Common.{◌≡◌, ◌<◌, length, get_or, [], refl, sym, ap, ◌∙◌, arith}
+use Rattle.std.proofs.Common.{length, refl, sym, ap, ◌∙◌, arith}
 use Rattle.crs_matrix.specs.Stored.{places_of}
 use Rattle.crs_matrix.proofs.Kept.{row-is, row-within}
 use Rattle.crs_matrix.proofs.Clauses.{ascending-clause, count-clause, stored-known}
