@@ -29,7 +29,7 @@ pub(crate) fn find_place(places: &[Place], col: Gid) -> Result<usize, usize>
 }
 
 /// The number at a column of one row, or none.
-pub(crate) fn number_of<S: Copy>(places: &[Place], values: &[S], col: Gid) -> Option<S>
+pub(crate) fn number_of<S: Scalar>(places: &[Place], values: &[S], col: Gid) -> Option<S>
     requires ascending { IsAscending (columns_at places.now) }
     requires within { AreWithin (length values.now) places.now }
     ensures number { result ≡ number_at (cells_at values.now places.now) col }

@@ -1,0 +1,5 @@
+pub mod DenseRows
+pub mod Links
+pub mod Gathered
+pub mod Added
+pub mod Products
