@@ -1,5 +1,5 @@
 -- What is read of a name, and what its text is.
-use Rattle.std.proofs.Common.{◌≡◌, ◌⊎◌, ℕ, ◌+◌, ◌≤◌, false, List, Option, Some, Result, Ok, Err, IfOk, IfErr, IsErrOf, MatchOption, take, length, ap, sym, ◌∙◌, subst, arith, inl, inr}
+use Rattle.std.proofs.Common.{◌≡◌, ◌≢◌, ◌⊎◌, ℕ, ◌+◌, ◌≤◌, false, List, Option, Some, Result, Ok, Err, IfOk, IfErr, IsErrOf, MatchOption, take, length, ap, sym, ◌∙◌, subst, arith, inl, inr}
 use Rattle.std.proofs.lemmas.Bool.{cases_lt}
 use Rattle.std.proofs.lemmas.List.{length-take-le, take-take, take_all}
 use Rattle.outside.specs.Reads.{HasText, Reads, Source}
@@ -65,6 +65,12 @@ not_unread profile bytes (Err fault) is e =
       | inl memory ↦ absurd (cc)
       | inr e' ↦ absurd (no_read_fault profile bytes (e' ∙ ap Err same))
     ]
+
+-- so every fault is another one
+pub other_fault : (profile : Profile) (bytes : Text) (r : Result FileData MmFault) → Gives file_of r (reading profile bytes) →
+    IfErr r (λ fault. fault ≢ ReadFault)
+other_fault profile bytes (Ok found) is = tt
+other_fault profile bytes (Err fault) is = λ e. not_unread profile bytes (Err fault) is (cc)
 
 -- what is read is sound and keeps the limits, whatever the bytes are
 pub kept_answer : (profile : Profile) (bytes : Text) (r : Result FileData MmFault) → Gives file_of r (reading profile bytes) →

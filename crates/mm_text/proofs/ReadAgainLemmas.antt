@@ -1,21 +1,23 @@
 -- A text that was read is read again by another profile.
-use Rattle.std.proofs.Common.{◌≡◌, ℕ, Bool, true, false, cond, not, ◌||◌, ◌&&◌, eqb, ltb, leb, List, [], ◌∷◌, length, take, Ok, Err, refl, sym, ap, ◌∙◌}
+use Rattle.std.proofs.Common.{◌≡◌, ◌≢◌, ◌≤◌, arith, ℕ, Bool, true, false, cond, not, ◌||◌, ◌&&◌, eqb, ltb, leb, List, [], ◌∷◌, length, take, Result, Ok, Err, IfErr, IfOk, inl, inr, refl, sym, ap, ◌∙◌, subst}
+use Rattle.std.proofs.lemmas.Bool.Decides.{nat_tests}
 use Rattle.std.proofs.lemmas.Result.{IfOk-at_ok}
 use Rattle.mm_text.specs.declared.profile.Profile.{Profile}
 use Rattle.mm_text.specs.declared.reading.banner.Banner.{Banner}
 use Rattle.mm_text.specs.declared.reading.banner.Field.{Field}
 use Rattle.mm_text.specs.declared.reading.banner.Symmetry.{Symmetry}
 use Rattle.mm_text.specs.declared.fault.MmFault.{MmFault}
-use Rattle.mm_text.specs.declared.fault.MmFault.TheVariants.{BadBanner, BadSize, NoBanner, NotSquare, TooManyEntries, WrongForm}
+use Rattle.mm_text.specs.declared.fault.MmFault.TheVariants.{BadBanner, BadSize, NoBanner, NotSquare, ReadFault, TooManyEntries, WrongForm}
+use Rattle.mm_text.specs.declared.file_data.FileData.{FileData}
 use Rattle.mm_text.specs.declared.file_data.Form.{Form}
 use Rattle.mm_text.specs.declared.file_data.Form.TheVariants as form
 use Rattle.mm_text.specs.declared.file_data.Mirror.{Mirror}
 use Rattle.mm_text.specs.declared.reading.sizes.Sizes.{Sizes}
 use Rattle.mm_text.specs.Banner.{banner_of, banner_named, banner_supported, field_named, form_named, kind_of, mirror_of, object_named, same_form, symmetry_named}
 use Rattle.mm_text.specs.Lines.{Text, four_words, kept_from, lines_of, words_of}
-use Rattle.mm_text.specs.Outcomes.{Outcome, ◌>>=◌, at_end, or_fault}
+use Rattle.mm_text.specs.Outcomes.{Gives, Outcome, ◌>>=◌, at_end, or_fault}
 use Rattle.mm_text.specs.ReadAgain.{read_again, within_limits}
-use Rattle.mm_text.specs.Reading.{File, body_of, entries_in, file_sized, lines_read, reading}
+use Rattle.mm_text.specs.Reading.{File, body_of, entries_in, file_of, file_sized, lines_read, reading}
 use Rattle.mm_text.specs.Sizes.{is_plain, sizes_announced, sizes_limited, sizes_of}
 use Rattle.mm_text.proofs.EntrySoundLemmas.{good_ok, good_then}
 use Rattle.mm_text.proofs.SoundLemmas.{AreAll, entries_in_good}
@@ -161,3 +163,42 @@ unfolding reading
 texts-are_read_again p q text file same e =
     ap (λ n. lines_read (leb (length text) n) q (lines_of (leb (length text) n) (take n text))) (sym same)
     ∙ lines_again (leb (length text) p.bytes) p q (lines_of (leb (length text) p.bytes) (take p.bytes text)) file e
+
+-- What is answered for a file is what its text is read as, and no fault of a read.
+module _ (p q : Profile) (file : File) (r : Result FileData MmFault) (is : Gives file_of r (read_again p.form q file)) where
+  pub gives-of_text : (text : Text) → p.bytes ≡ q.bytes → reading p text ≡ Ok file → Gives file_of r (reading q text)
+  gives-of_text text same e = subst (Gives file_of r) (sym (texts-are_read_again p q text file same e)) is
+
+again_unread : (same a c : Bool) (file : File) → cond same (cond a (Err BadSize) (cond c (Err TooManyEntries) (Ok file))) (Err WrongForm) ≡ Err ReadFault → ⊥
+again_unread true true c file e = cc
+again_unread true false true file e = cc
+again_unread true false false file e = cc
+again_unread false a c file e = cc
+
+pub again-no_read : (form : Form) (q : Profile) (file : File) (r : Result FileData MmFault) → Gives file_of r (read_again form q file)
+    → IfErr r (λ fault. fault ≢ ReadFault)
+again-no_read form q file (Ok found) is = tt
+again-no_read form q file (Err fault) is = λ e.
+    elim is [
+      | inl memory ↦ absurd (cc)
+      | inr h ↦ again_unread (same_form q.form form) (ltb q.rows file.rows || ltb q.cols file.cols) (ltb q.entries (length file.lines)) file (h ∙ ap Err e)
+    ]
+
+-- what is answered has at most so many entries
+again_within : (same a c : Bool) (file found : File) (room : ℕ) → ltb room (length file.lines) ≡ c
+    → cond same (cond a (Err BadSize) (cond c (Err TooManyEntries) (Ok file))) (Err WrongForm) ≡ Ok found → length found.lines ≤ room
+again_within true true c file found room t e = absurd (cc)
+again_within true false true file found room t e = absurd (cc)
+again_within true false false file found room t e =
+    let is : file ≡ found = cc in
+    subst (λ (f : File). length f.lines ≤ room) is (fits (length file.lines) room t)
+  where
+    fits : (n room : ℕ) → ltb room n ≡ false → n ≤ room
+    fits n room t = grind (arith, nat_tests)
+again_within false a c file found room t e = absurd (cc)
+
+pub again-room : (form : Form) (q : Profile) (file : File) (r : Result FileData MmFault) → Gives file_of r (read_again form q file)
+    → IfOk r (λ found. length found.lines.items ≤ q.entries)
+again-room form q file (Ok found) is =
+    again_within (same_form q.form form) (ltb q.rows file.rows || ltb q.cols file.cols) (ltb q.entries (length file.lines)) file (file_of found) q.entries refl is
+again-room form q file (Err fault) is = tt

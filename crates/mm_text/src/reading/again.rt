@@ -1,9 +1,9 @@
 //! Texts that were read, in another form and within other limits.
-ghost use Rattle.std.specs.Prelude.{◌≡◌, ◌<◌, ◌^◌, IfOk, length};
+ghost use Rattle.std.specs.Prelude.{◌≡◌, ◌≢◌, ◌≤◌, ℕ, List, IfErr, IfOk, length};
 ghost use Rattle.mm_text.specs.Limits.{profile_of};
 ghost use Rattle.mm_text.specs.Outcomes.{Gives};
 ghost use Rattle.mm_text.specs.ReadAgain.{read_again, within_limits};
-ghost use Rattle.mm_text.specs.Reading.{file_of};
+ghost use Rattle.mm_text.specs.Reading.{IsFile, file_of, reading};
 
 use crate::profile::Profile;
 use crate::reading::banner::same_form;
@@ -23,6 +23,27 @@ fn within_limits(profile: Profile, rows: u64, cols: u64, count: usize) -> Result
     Ok(())
 }
 
+/// A copy of a file of this form, in the form of the profile and within its limits.
+fn copied_again(
+    alloc: Global,
+    file: &FileData,
+    form: Form,
+    profile: Profile,
+) -> Result<FileData, MmFault>
+    ensures { Gives file_of result (read_again form profile (file_of file.now)) }
+{
+    if !same_form(profile.form, form) {
+        return Err(MmFault::WrongForm);
+    }
+    within_limits(profile, file.rows, file.cols, file.lines.len())?;
+    Ok(FileData {
+        rows: file.rows,
+        cols: file.cols,
+        mirror: file.mirror,
+        lines: file.lines.as_slice().to_vec(alloc)?,
+    })
+}
+
 /// What the text of a file that was read in the form `form` is in the form `want`, with at most `most` rows and `room`
 /// entries: a copy of the file, or the fault of its text. No text is read for it.
 ///
@@ -36,17 +57,13 @@ pub fn read_again(
     room: u32,
     most: u64,
 ) -> Result<FileData, MmFault>
-    ensures { Gives file_of result (read_again form (profile_of want room most) (file_of file.now)) }
+    ensures answer { Gives file_of result (read_again form (profile_of want room most) (file_of file.now)) }
+
+    // What is answered is what each text is read as of which this is the file.
+    ensures text { (before limit : ℕ) (text : List ℕ) → IsFile (profile_of form before limit) text (file_of file.now)
+        → Gives file_of result (reading (profile_of want room most) text) }
+    ensures room { IfOk result (λ found. length found.lines.items ≤ room) }
+    ensures no_read { IfErr result (λ fault. fault ≢ MmFault.ReadFault) }
 {
-    if !same_form(want, form) {
-        return Err(MmFault::WrongForm);
-    }
-    let profile = Profile::new(want, room, most);
-    within_limits(profile, file.rows, file.cols, file.lines.len())?;
-    Ok(FileData {
-        rows: file.rows,
-        cols: file.cols,
-        mirror: file.mirror,
-        lines: file.lines.as_slice().to_vec(alloc)?,
-    })
+    copied_again(alloc, file, form, Profile::new(want, room, most))
 }

@@ -1,5 +1,5 @@
 //! Files that are read by name.
-ghost use Rattle.std.specs.Prelude.{◌≡◌, ◌+◌, ◌<◌, ◌≤◌, ◌⊎◌, ◌++◌, ℕ, List, Option, Some, length, take, IfOk, IfErr, IsErrOf, MatchOption};
+ghost use Rattle.std.specs.Prelude.{◌≡◌, ◌≢◌, ◌+◌, ◌<◌, ◌≤◌, ◌⊎◌, ◌++◌, ℕ, List, Option, Some, length, take, IfOk, IfErr, IsErrOf, MatchOption};
 ghost use Rattle.outside.specs.Bytes.{IsReadOf};
 ghost use Rattle.outside.specs.Reads.{HasText, Reads, Source};
 ghost use Rattle.mm_text.specs.Limits.{most_bytes, most_cols, most_rows, profile_of};
@@ -129,7 +129,10 @@ pub fn parse_matrix(
     most: u64,
 ) -> Result<FileData, MmFault>
     requires { most ≤ most_rows }
-    ensures { Gives file_of result (reading (profile_of want room most) text.now) }
+    ensures answer { Gives file_of result (reading (profile_of want room most) text.now) }
+    ensures sound { IfOk result (λ found. IsSound (file_of found)) }
+    ensures limits { IfOk result (λ found. KeepsLimits (profile_of want room most) (file_of found)) }
+    ensures no_read { IfErr result (λ fault. fault ≢ MmFault.ReadFault) }
 {
     read_text(alloc, text, Profile::new(want, room, most))
 }
