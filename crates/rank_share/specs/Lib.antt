@@ -1,0 +1,4 @@
+pub mod Ascending
+pub mod CellLines
+pub mod Shares
+pub mod Conditions
