@@ -138,12 +138,13 @@ static void plan(int rounds) {
     print(sum);
 }
 
-// y = 2 x - y on 4,000,000 cells, so many times.
+// y = 2 x - y on 4,000,000 cells, so many times. The factors are not known when this is compiled, as in a library.
 static void update(int rounds) {
     const uint32_t count = 4000000;
     std::vector<Weighed> x, y;
     for (uint32_t l = 0; l < count; l++) x.push_back(num(l)), y.push_back(num(1));
-    Weighed alpha = num(2), beta = num(-1);
+    volatile int64_t two = 2, minus = -1;
+    Weighed alpha = num(two), beta = num(minus);
     for (int round = 0; round < rounds; round++)
         for (uint32_t l = 0; l < count; l++) y[l] = add(mul(alpha, x[l]), mul(beta, y[l]));
     Weighed sum = ZERO;

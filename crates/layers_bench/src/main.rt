@@ -1,0 +1,36 @@
+//! Times the layers below a rank: `lookups` or `update`, how many rounds, and how many indices. bench/layers.sh runs it beside
+//! the same work in C++.
+#![tactic(auto)]
+
+mod look_ups;
+mod updates;
+
+use look_ups::look_up;
+use std::{env, io};
+use updates::update;
+
+/// A number of the command line below a limit, or another one where it is missing.
+fn number_or(word: Option<&str>, limit: u32, missing: u32) -> u32 {
+    match word.map(|word| word.parse::<u32>()) {
+        Some(Ok(number)) if number <= limit => number,
+        _ => missing,
+    }
+}
+
+fn main(rt: HostRuntime) -> io::Result<()> {
+    let word = env::args(&rt)?.nth(1);
+    let rounds = env::args(&rt)?.nth(2);
+    let rounds = number_or(rounds.as_ref().map(|word| word.as_str()), 1_000_000, 2);
+    let count = env::args(&rt)?.nth(3);
+    let count = number_or(count.as_ref().map(|word| word.as_str()), 16_777_216, 1_000);
+    match word.as_ref().map(|word| word.as_str()) {
+        Some("update") => match update(rt.alloc(), rounds, count)? {
+            Some((value, weight)) => println!(rt; "{value} {weight}"),
+            None => println!(rt; "over"),
+        },
+        _ => match look_up(rt.alloc(), rounds, count) {
+            Ok(sum) => println!(rt; "{sum}"),
+            Err(fault) => println!(rt; "{fault}"),
+        },
+    }
+}
