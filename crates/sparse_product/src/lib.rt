@@ -11,3 +11,8 @@ mod add;
 mod dense_row;
 mod gather;
 mod linked_rows;
+mod product;
+#[cfg(test)]
+mod tests;
+
+pub use product::local_product;
