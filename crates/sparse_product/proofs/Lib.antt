@@ -3,3 +3,4 @@ pub mod Links
 pub mod Gathered
 pub mod Added
 pub mod Products
+pub mod WholeProduct

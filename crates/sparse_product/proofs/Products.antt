@@ -33,7 +33,7 @@ total-places L f [] = refl
 total-places {M = M} L f (x ∷ xs) = ap (M.join (f x)) (total-places L f xs) ∙ sym (total_below-front L (length xs) (λ k. f (get_or (x ∷ xs) k 0)))
 
 module _ {S : Type 0} where
-  number-own : (cells : List (ℕ × S)) → IsAscending (columns_in cells) → (i : ℕ) (c : ℕ × S) → slice_get cells i ≡ Some c → number_at cells c.0 ≡ Some c.1
+  pub number-own : (cells : List (ℕ × S)) → IsAscending (columns_in cells) → (i : ℕ) (c : ℕ × S) → slice_get cells i ≡ Some c → number_at cells c.0 ≡ Some c.1
   number-own [] up i c e = absurd (cc)
   number-own (x ∷ cells) up zero c e =
       let same : x ≡ c = cc in
@@ -59,7 +59,7 @@ module _ {S : Type 0} where
           let bad : true ≡ false = sym (there cells i e) ∙ none in
           absurd (cc)
 
-  number-absent : (cells : List (ℕ × S)) (k : ℕ) → stands k (columns_in cells) ≡ false → number_at cells k ≡ None
+  pub number-absent : (cells : List (ℕ × S)) (k : ℕ) → stands k (columns_in cells) ≡ false → number_at cells k ≡ None
   number-absent [] k e = refl
   number-absent (x ∷ cells) k e =
       let parts = or_parts (eqb x.0 k) (stands k (columns_in cells)) e in

@@ -1,4 +1,4 @@
-//! Products and sums of sparse matrices on one rank (`TpetraExt::MatrixMatrix`).
+//! Products of sparse matrices on one rank (`TpetraExt::MatrixMatrix`).
 //!
 //! A row of a product is gathered in one dense row over all columns of the result, together with a list of what this row
 //! reached; only that is cleared before the next row. So the cost is linear in the multiplications, whatever the number
@@ -11,3 +11,8 @@ mod add;
 mod dense_row;
 mod gather;
 mod linked_rows;
+mod product;
+#[cfg(test)]
+mod tests;
+
+pub use product::local_product;
