@@ -19,6 +19,8 @@ mod phase;
 mod shape;
 mod shape_list;
 mod sheets;
+#[cfg(test)]
+mod tests;
 
 pub use job::{Job, MapForm, MapSpec, MatrixSpec, Origin, PartsSpec, Step, VectorSpec};
 pub use lists::{ListOf, Text};
