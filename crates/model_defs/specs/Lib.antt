@@ -1,2 +1,14 @@
 pub mod FileMatrix
 pub mod ShowText
+pub mod Maps
+pub mod Makers
+pub mod Turns
+pub mod Shapes
+pub mod Operations
+pub mod Pieces
+pub mod Given
+pub mod Eval
+pub mod Limits
+pub mod Naming
+pub mod Valid
+pub mod Fitting
