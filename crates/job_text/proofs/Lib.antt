@@ -1,0 +1,2 @@
+pub mod LayoutTests
+pub mod KeyLists
