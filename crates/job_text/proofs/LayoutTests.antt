@@ -6,6 +6,7 @@ use Rattle.std.specs.Bool.{Decides}
 use Rattle.std.specs.List.{concat, list_all}
 use Rattle.tables.specs.Indices.{stands, count_from, AreDistinct}
 use Rattle.tables.proofs.Counting.{stands-append}
+use Rattle.map_core.proofs.Members.{stands-concat}
 use Rattle.map_core.specs.Layouts.{Layout, IsLayout, IsOneToOne, IsTotal, rank_list}
 use Rattle.job_text.specs.Layouts.{are_distinct, is_one_to_one, is_total, covers}
 
@@ -17,7 +18,7 @@ pub distinct_decides : (xs : List ℕ) → Decides (are_distinct xs) (AreDistinc
 distinct_decides [] = (λ _. tt, λ _. refl)
 distinct_decides (x ∷ xs) = Decides-and (not (stands x xs)) (are_distinct xs) (not_decides (stands x xs)) (distinct_decides xs)
 
-both : (a b : Bool) → a ≡ true → b ≡ true → (a && b) ≡ true
+pub both : (a b : Bool) → a ≡ true → b ≡ true → (a && b) ≡ true
 both a b e e' = cc
 
 -- each number from a on, k of them
@@ -53,17 +54,12 @@ count_rest ls i n h = omega (arith, ap length (concat_rest ls i h), length-appen
 pub stands_rest : (g : ℕ) (ls : List (List ℕ)) (i : ℕ) → i < length ls → stands g (concat (drop i ls)) ≡ (stands g (get_or ls i []) || stands g (concat (drop (i + 1) ls)))
 stands_rest g ls i h = ap (stands g) (concat_rest ls i h) ∙ stands-append g (get_or ls i []) (concat (drop (i + 1) ls))
 
--- one index more
-next_suc : (p : ℕ → Bool) (xs : List ℕ) (i g : ℕ) → slice_get xs i ≡ Some g → list_all p (drop i xs) ≡ (p g && list_all p (drop (suc i) xs))
-next_suc p [] i g e = absurd (cc)
-next_suc p (x ∷ xs) zero g e = let same : x ≡ g = cc in ap (λ y. p y && list_all p xs) same
-next_suc p (x ∷ xs) (suc i) g e = next_suc p xs i g e
-
-pub all_next : (p : ℕ → Bool) (xs : List ℕ) (i g : ℕ) → slice_get xs i ≡ Some g → list_all p (drop i xs) ≡ (p g && list_all p (drop (i + 1) xs))
-all_next p xs i g e = rw add-one (next_suc p xs i g e)
+-- an index of one list stands in all of them
+pub stands_in_one : (g : ℕ) (ls : List (List ℕ)) (k : ℕ) → stands g (get_or ls k []) ≡ true → stands g (concat ls) ≡ true
+stands_in_one g ls k s = stands-concat g ls k s
 
 -- what holds of each index of a list, and of lists
-all_stand : (p : ℕ → Bool) (xs : List ℕ) → list_all p xs ≡ true → (g : ℕ) → stands g xs ≡ true → p g ≡ true
+pub all_stand : (p : ℕ → Bool) (xs : List ℕ) → list_all p xs ≡ true → (g : ℕ) → stands g xs ≡ true → p g ≡ true
 all_stand p [] e g s = absurd (cc)
 all_stand p (x ∷ xs) e g s =
     elim (cases_Bool (x == g)) [
@@ -71,7 +67,7 @@ all_stand p (x ∷ xs) e g s =
       | inr other ↦ all_stand p xs ((and_parts _ _ e).1) g (sym (ap (λ b. b || stands g xs) other) ∙ s)
     ]
 
-stand_all : (p : ℕ → Bool) (xs : List ℕ) → ((g : ℕ) → stands g xs ≡ true → p g ≡ true) → list_all p xs ≡ true
+pub stand_all : (p : ℕ → Bool) (xs : List ℕ) → ((g : ℕ) → stands g xs ≡ true → p g ≡ true) → list_all p xs ≡ true
 stand_all p [] each = refl
 stand_all p (x ∷ xs) each =
     let same : (x == x) ≡ true = grind (arith, nat_tests) in

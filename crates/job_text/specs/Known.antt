@@ -73,3 +73,11 @@ with_maker known maker = with_value known (maker_name maker) (shape_by (length k
 
 abbrev pub with_step : Known → Step → Known
 with_step known step = if gives_value step then with_maker known (Made step) else known
+
+-- what is named and what is stated, after the tables of an array
+pub record Read (A : Type 0) : Type 0 where
+  pub known : Known
+  pub done : List A
+
+abbrev pub read : {A : Type 0} → Known → List A → Read A
+read known done = record { known = known; done = done }

@@ -25,7 +25,7 @@ pub struct KnownValue {
     pub shape: Shape,
 }
 
-/// The number of ranks, and the maps and the values that were named, in order. A map or a value is spoken of by its number,
+/// The number of ranks, 1 to 32, and the maps and the values that were named, in order. A map or a value is spoken of by its number,
 /// from 0.
 #[derive(Drop)]
 pub struct Known {
@@ -35,19 +35,21 @@ pub struct Known {
 }
 
 impl Model for Known {
-    ghost use Rattle.std.specs.Prelude.{◌<◌, ◌^◌, length};
+    ghost use Rattle.std.specs.Prelude.{◌<◌, ◌≤◌, ◌^◌, length};
     ghost use Rattle.job_text.specs.Known.{Known};
 
     ghost Value = { Known };
 
     ghost view = { λ k. record { ranks = k.ranks; maps = k.maps.items; values = k.values.items } };
 
-    ghost invariant = { λ k. (length k.maps.items < 2 ^ 32) × (length k.values.items < 2 ^ 32) };
+    ghost invariant = { λ k. (1 ≤ k.ranks) × (k.ranks ≤ 32) × (length k.maps.items < 2 ^ 32) × (length k.values.items < 2 ^ 32) };
 }
 
 impl Known {
     /// Nothing is named yet.
     pub fn new(alloc: Global, ranks: u32) -> Known
+        requires some_rank { 1 ≤ ranks }
+        requires ranks_limit { ranks ≤ 32 }
         ensures { result ≡ no_names ranks }
     {
         Known {
@@ -58,7 +60,9 @@ impl Known {
     }
 
     pub fn ranks(&self) -> u32
-        ensures { result ≡ self.now.ranks }
+        ensures ranks { result ≡ self.now.ranks }
+        ensures some_rank { 1 ≤ result }
+        ensures ranks_limit { result ≤ 32 }
     {
         self.ranks
     }

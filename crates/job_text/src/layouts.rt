@@ -1,6 +1,6 @@
 //! What is tested of layouts.
-ghost use Rattle.std.specs.Prelude.{◌≡◌, ◌<◌, ◌≤◌, ◌^◌, length};
-ghost use Rattle.std.specs.List.{concat, list_all};
+ghost use Rattle.std.specs.Prelude.{◌≡◌, ◌<◌, IfSome, is_some, length};
+ghost use Rattle.std.specs.List.{concat, list_all, slice_index_or};
 ghost use Rattle.map_core.specs.Layouts.{stands, rank_list};
 ghost use Rattle.job_text.specs.Layouts.{covers, index_count, is_one_to_one, is_total};
 
@@ -31,29 +31,48 @@ pub fn count_indices(layout: &Layout) -> u64
     count
 }
 
-/// Whether an index stands in the list of a rank.
-#[tactic(auto, using(crate::proofs::LayoutTests::stands_rest))]
-fn is_mapped(layout: &Layout, gid: Gid) -> bool
-    ensures { result ≡ stands gid (concat layout.now.lists) }
+/// A rank whose list has an index, if there is one. The rank `near` is asked first.
+#[tactic(auto, using(crate::proofs::LayoutTests::stands_rest, crate::proofs::LayoutTests::stands_in_one))]
+fn rank_with(layout: &Layout, near: u32, gid: Gid) -> Option<u32>
+    requires { near < length layout.now.lists }
+    ensures found { is_some result ≡ stands gid (concat layout.now.lists) }
+    ensures within { IfSome result (λ rank. rank < length layout.now.lists) }
 {
+    if layout.list(near).local_of(gid).is_some() {
+        return Some(near);
+    }
     for rank in 0..layout.ranks() {
         if layout.list(rank).local_of(gid).is_some() {
-            return true;
+            return Some(rank);
         }
     }
-    false
+    None
 }
 
-/// Whether the layout has each index of a list.
-#[tactic(auto, using(crate::proofs::LayoutTests::all_next))]
+/// A rank of the layout that has the index at a place of a list, if there is one.
+#[tactic(auto, using(std::proofs::lemmas::Option::get_or_from_slice_get))]
+fn rank_with_place(layout: &Layout, near: u32, list: &LocalMap, place: u32) -> Option<u32>
+    requires known { near < length layout.now.lists }
+    requires within { place < length list.now }
+    ensures found { is_some result ≡ stands (slice_index_or list.now place 0) (concat layout.now.lists) }
+    ensures within { IfSome result (λ rank. rank < length layout.now.lists) }
+{
+    match list.global_of(place) {
+        Some(gid) => rank_with(layout, near, gid),
+        None => None,
+    }
+}
+
+/// Whether the layout has each index of a list. Neighbours in the list are often on one rank, so that rank is asked first.
 fn has_list(layout: &Layout, list: &LocalMap) -> bool
     ensures { result ≡ list_all (λ g. stands g (concat layout.now.lists)) list.now }
 {
+    let _ranks = layout.ranks();
+    let mut near = 0;
     for place in 0..list.len() {
-        if let Some(gid) = list.global_of(place) {
-            if !is_mapped(layout, gid) {
-                return false;
-            }
+        match rank_with_place(layout, near, list, place) {
+            None => return false,
+            Some(rank) => near = rank,
         }
     }
     true

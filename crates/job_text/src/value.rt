@@ -1,5 +1,5 @@
 //! The values of the keys of a table.
-ghost use Rattle.std.specs.Prelude.{◌≡◌, ◌<◌, ◌≤◌, ◌^◌, Some, None, IfSome, option_map, length};
+ghost use Rattle.std.specs.Prelude.{◌≡◌, ◌<◌, ◌≤◌, ◌^◌, IfOk, option_map};
 ghost use Rattle.job_text.specs.Outcomes.{Gives, GivesAs};
 ghost use Rattle.job_text.specs.Names.{unknown_in};
 ghost use Rattle.job_text.specs.Keys.{array_of, file_at, file_of, flag_of, flag_or, integer_at, integer_of, integer_or, map_at, map_named, mode_at, mode_of, mode_or, name_at, name_of, new_name_at, number_at, number_of, number_or, number_within, only_keys, required, text_of, value_named, value_or_none};
@@ -10,7 +10,7 @@ ghost use Rattle.toml.specs.View.{array_view, table_view, view};
 use crate::JobFault;
 use crate::fault::{limit, missing, name_taken, unknown_key, unknown_name, wrong_kind};
 use crate::known::Known;
-use crate::names::{is_name};
+use crate::names::is_name;
 use crate::place::Place;
 use crate::words::{Form, is_key, mode_named};
 use combine_modes::Mode;
@@ -122,7 +122,8 @@ pub fn number_within(
     high: u64,
     number: i64,
 ) -> Result<u64, JobFault>
-    ensures { Gives result (number_within place key.now low high number) }
+    ensures number { Gives result (number_within place key.now low high number) }
+    ensures within { IfOk result (λ n. n ≤ high) }
 {
     if number < 0 {
         return Err(limit(alloc, place, key));
@@ -144,7 +145,8 @@ pub fn number_of(
     high: u64,
     value: &Value,
 ) -> Result<u64, JobFault>
-    ensures { Gives result (number_of place key.now low high (view value.now)) }
+    ensures number { Gives result (number_of place key.now low high (view value.now)) }
+    ensures within { IfOk result (λ n. n ≤ high) }
 {
     let number = integer_of(alloc, place, key, value)?;
     number_within(alloc, place, key, low, high, number)
@@ -227,7 +229,8 @@ pub fn number_at(
     low: u64,
     high: u64,
 ) -> Result<u64, JobFault>
-    ensures { Gives result (number_at place (table_view table.now) key.now low high) }
+    ensures number { Gives result (number_at place (table_view table.now) key.now low high) }
+    ensures within { IfOk result (λ n. n ≤ high) }
 {
     let value = required(alloc, place, table, key)?;
     number_of(alloc, place, key, low, high, value)
@@ -332,7 +335,9 @@ pub fn number_or(
     low: u64,
     high: u64,
 ) -> Result<u64, JobFault>
-    ensures { Gives result (number_or place (table_view table.now) key.now default low high) }
+    requires { default ≤ high }
+    ensures number { Gives result (number_or place (table_view table.now) key.now default low high) }
+    ensures within { IfOk result (λ n. n ≤ high) }
 {
     match value_at(table, key) {
         None => Ok(default),

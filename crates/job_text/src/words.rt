@@ -63,6 +63,40 @@ pub struct Unbuilt {
     pub assembles: bool,
 }
 
+/// What is not built yet. A word is built once it stands as `false` here, and nothing else speaks of it.
+pub const TODAY: Unbuilt = Unbuilt {
+    matrix: true,
+    blocks: true,
+    cyclic: true,
+    lists: true,
+    moves: true,
+    imports: true,
+    exports: true,
+    spreads: true,
+    applies: true,
+    transposes: true,
+    multiplies: true,
+    adds: true,
+    assembles: true,
+};
+
+/// Every word is built.
+pub const ALL: Unbuilt = Unbuilt {
+    matrix: false,
+    blocks: false,
+    cyclic: false,
+    lists: false,
+    moves: false,
+    imports: false,
+    exports: false,
+    spreads: false,
+    applies: false,
+    transposes: false,
+    multiplies: false,
+    adds: false,
+    assembles: false,
+};
+
 /// The kind of a map of this name, where it is built.
 pub fn kind_named(unbuilt: Unbuilt, word: &str) -> Option<MapKind>
     ensures { result ≡ kind_named unbuilt word.now }
@@ -227,9 +261,7 @@ fn is_map_key(kind: MapKind, key: &str) -> bool
 fn is_apply_key(key: &str) -> bool
     ensures { result ≡ is_among key.now (step_keys Op.Apply) }
 {
-    key == "name"
-        || key == "matrix"
-        || is_one_of_5(key, "x", "y", "alpha", "beta", "transposed")
+    key == "name" || key == "matrix" || is_one_of_5(key, "x", "y", "alpha", "beta", "transposed")
 }
 
 /// Whether a statement has the key, beside `op`.
