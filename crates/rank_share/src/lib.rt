@@ -16,6 +16,7 @@
 mod cells;
 mod files;
 mod indices;
+pub mod laws;
 mod own_map;
 mod places;
 mod share;
