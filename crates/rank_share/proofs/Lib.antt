@@ -7,3 +7,4 @@ pub mod Maps
 pub mod Positions
 pub mod Lined
 pub mod SharedCells
+pub mod Examples

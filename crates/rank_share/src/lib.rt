@@ -21,6 +21,8 @@ mod own_map;
 mod places;
 mod share;
 mod sharing;
+#[cfg(test)]
+mod tests;
 mod values;
 
 pub use share::Share;
