@@ -5,3 +5,6 @@ pub mod Dense
 pub mod Turns
 pub mod Maps
 pub mod Positions
+pub mod Lined
+pub mod SharedCells
+pub mod Examples

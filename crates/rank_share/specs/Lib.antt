@@ -2,3 +2,4 @@ pub mod Ascending
 pub mod CellLines
 pub mod Shares
 pub mod Conditions
+pub mod Laws

@@ -16,10 +16,13 @@
 mod cells;
 mod files;
 mod indices;
+pub mod laws;
 mod own_map;
 mod places;
 mod share;
 mod sharing;
+#[cfg(test)]
+mod tests;
 mod values;
 
 pub use share::Share;
