@@ -18,6 +18,8 @@ mod fault;
 mod held;
 pub mod laws;
 mod reading;
+#[cfg(test)]
+mod tests;
 mod wanted;
 
 pub use fault::FilesFault;
