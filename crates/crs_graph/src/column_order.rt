@@ -58,7 +58,10 @@ fn has_column(columns: &[Gid], col: Gid) -> bool
     requires ascend { IsAscending columns.now }
     ensures has { result ≡ stands col columns.now }
 {
-    columns.binary_search(&col).is_ok()
+    match columns.binary_search(&col) {
+        Ok(_) => true,
+        Err(_) => false,
+    }
 }
 
 /// The owner and the index of each column that the domain lacks.

@@ -4,11 +4,15 @@
 //! list of its rows and, for each of them, the columns that it has, ascending: a set of places. The column map lists first
 //! the columns of the domain, in its order, then the others by owner, then by index.
 //!
+//! A `CrsGraph` is the same set of places in compressed rows. Contracts see it as the list of its rows, the list of its
+//! column map, and for each row the local indices of its columns, ascending.
+//!
 //! ```text
 //! let mut fill = GraphFill::new(alloc, rows)?;
 //! let is_new = fill.insert(row, col)?;
 //! let columns = fill.columns()?;
-//! let map = column_map(alloc, &columns, &domain, &owners)?;
+//! let graph = fill.fill_complete(&domain, &owners)?;      // one owner for each of the columns
+//! graph.row(lid);                                         // local columns
 //! ```
 //!
 //! It stands on `map_core`, whose maps have the rows, and keeps rows under construction with `smallvec`. Matrices stand on

@@ -1,6 +1,9 @@
-use Rattle.std.proofs.Common.{◌∙◌}
+use Rattle.std.proofs.Common.{Ok, Err, sym}
 use Rattle.crs_graph.proofs.Ascending.{searched_is}
 use Rattle.crs_graph.proofs.column_order.has_column.Goals as goal
 
-pub returns : goal.returns
-returns c = record { has = c.is_ok.ensures.value ∙ searched_is c.args.columns.now c.args.col c.binary_search.result c.requires.ascend c.binary_search.ensures.position }
+pub returns-in-Ok : goal.returns-in-Ok
+returns-in-Ok c = record { has = searched_is c.args.columns.now c.args.col (Ok c.in-Ok.field-0) c.requires.ascend c.in-Ok.ensures.position }
+
+pub returns-in-Err : goal.returns-in-Err
+returns-in-Err c = record { has = searched_is c.args.columns.now c.args.col (Err c.in-Err.field-0) c.requires.ascend c.in-Err.ensures.position }
