@@ -1,3 +1,16 @@
 pub mod Outcomes
 pub mod Names
+pub mod Words
+pub mod Sorts
+pub mod Layouts
+pub mod SoundLayouts
+pub mod ShapeFields
+pub mod Known
 pub mod Keys
+pub mod Lists
+pub mod Tables
+pub mod Maps
+pub mod Given
+pub mod Statements
+pub mod Steps
+pub mod Whole

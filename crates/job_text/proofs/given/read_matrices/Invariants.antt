@@ -1,0 +1,8 @@
+use Rattle.std.proofs.Common.{◌≡◌, [], drop}
+use Rattle.job_text.specs.Known.{read}
+use Rattle.job_text.specs.Given.{matrices_after}
+use Rattle.toml.specs.View.{items_view}
+use Rattle.job_text.proofs.given.read_matrices.Given as goal
+
+abbrev pub invariant-loop-k : goal.invariant-loop-k
+invariant-loop-k l = matrices_after (read l.known l.specs.items) l.k (items_view (drop l.k l.tables)) ≡ matrices_after (read l.fn.known []) 0 (items_view l.tables)

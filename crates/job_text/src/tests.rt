@@ -1,0 +1,145 @@
+mod keys;
+mod operands;
+
+use crate::{ALL, JobFault, TODAY, Unbuilt, read_job, read_job_by};
+use std::alloc::{AllocError, Global};
+use std::process::Abort;
+use std::test::Fail;
+
+/// A fault as the tests write it: its name and its field.
+fn shown(alloc: Global, fault: &JobFault) -> Result<String, AllocError> {
+    match fault {
+        JobFault::NotToml => String::from_str(alloc, "NotToml"),
+        JobFault::Missing { key } => with_field(alloc, "Missing", key.as_str()),
+        JobFault::WrongKind { key } => with_field(alloc, "WrongKind", key.as_str()),
+        JobFault::UnknownKey { key } => with_field(alloc, "UnknownKey", key.as_str()),
+        JobFault::UnknownName { name } => with_field(alloc, "UnknownName", name.as_str()),
+        JobFault::Limit { key } => with_field(alloc, "Limit", key.as_str()),
+        JobFault::BadMap { name } => with_field(alloc, "BadMap", name.as_str()),
+        JobFault::NameTaken { name } => with_field(alloc, "NameTaken", name.as_str()),
+        JobFault::NoMem => String::from_str(alloc, "NoMem"),
+        other => of_statement(alloc, other),
+    }
+}
+
+fn with_field(alloc: Global, name: &str, field: &str) -> Result<String, AllocError> {
+    format!(in alloc; "{name} {field}")
+}
+
+fn of_statement(alloc: Global, fault: &JobFault) -> Result<String, AllocError> {
+    match fault {
+        JobFault::MapMismatch { statement } => format!(in alloc; "MapMismatch {statement}"),
+        JobFault::NotCovered { statement } => format!(in alloc; "NotCovered {statement}"),
+        JobFault::WrongSort { statement } => format!(in alloc; "WrongSort {statement}"),
+        _ => String::from_str(alloc, "?"),
+    }
+}
+
+/// What is answered of a text: `Ok`, or its fault.
+fn answer(alloc: Global, unbuilt: Unbuilt, text: &[u8]) -> Result<String, AllocError> {
+    match read_job_by(alloc, unbuilt, text) {
+        Ok(_) => String::from_str(alloc, "Ok"),
+        Err(fault) => shown(alloc, &fault),
+    }
+}
+
+/// Where all words are built, the text has this answer.
+fn is(rt: &impl Abort, alloc: Global, text: &str, wanted: &str) -> Result<(), Fail> {
+    let found = answer(alloc, ALL, text.as_bytes())?;
+    assert_eq!(rt; found.as_str(), wanted);
+    Ok(())
+}
+
+/// The text has this answer after a head that is accepted.
+pub fn after(
+    rt: &impl Abort,
+    alloc: Global,
+    head: &str,
+    text: &str,
+    wanted: &str,
+) -> Result<(), Fail> {
+    let whole = format!(in alloc; "{head}{text}")?;
+    is(rt, alloc, whole.as_str(), wanted)
+}
+
+/// Today uniform maps, vectors, parts, `update`, `scale` and `print` are built.
+#[test]
+fn words_of_today(rt: HostRuntime) -> Result<(), Fail> {
+    let alloc = rt.alloc();
+    let text = "ranks = 2\nmatrix = []";
+    assert_eq!(rt;
+        answer(alloc, TODAY, text.as_bytes())?.as_str(),
+        "UnknownKey matrix"
+    );
+    let text = "ranks = 2\n[[map]]\nkind = \"cyclic\"";
+    assert_eq!(rt;
+        answer(alloc, TODAY, text.as_bytes())?.as_str(),
+        "WrongKind map.0.kind"
+    );
+    let text = "ranks = 2\n[[do]]\nop = \"move\"";
+    assert_eq!(rt;
+        answer(alloc, TODAY, text.as_bytes())?.as_str(),
+        "WrongKind do.0.op"
+    );
+    match read_job(alloc, b"ranks = 2") {
+        Ok(job) => assert_eq!(rt; job.ranks, 2),
+        Err(fault) => assert_eq!(rt; shown(alloc, &fault)?.as_str(), "Ok"),
+    }
+    Ok(())
+}
+
+/// A text of so many bytes: `ranks = 1`, and a comment.
+fn long_text(alloc: Global, bytes: usize) -> Result<Vec<u8>, AllocError> {
+    let mut text = Vec::from_slice(alloc, b"ranks = 1 #")?;
+    for _ in 0..bytes {
+        if text.len() >= bytes {
+            return Ok(text);
+        }
+        text.push(b'x')?;
+    }
+    Ok(text)
+}
+
+#[test]
+fn lengths(rt: HostRuntime) -> Result<(), Fail> {
+    let alloc = rt.alloc();
+    let text = long_text(alloc, 1048576)?;
+    assert_eq!(rt; text.len(), 1048576);
+    assert_eq!(rt; answer(alloc, ALL, &text)?.as_str(), "Ok");
+    let text = long_text(alloc, 1048577)?;
+    assert_eq!(rt; text.len(), 1048577);
+    assert_eq!(rt; answer(alloc, ALL, &text)?.as_str(), "Limit job");
+    Ok(())
+}
+
+/// A text with so many times the same table after its head.
+fn repeated(alloc: Global, head: &str, table: &str, count: u32) -> Result<String, AllocError> {
+    let mut text = String::from_str(alloc, head)?;
+    for _ in 0..count {
+        text.push_str(table)?;
+    }
+    Ok(text)
+}
+
+#[test]
+fn numbers_of_tables(rt: HostRuntime) -> Result<(), Fail> {
+    let alloc = rt.alloc();
+    let head =
+        "ranks = 1\n[[map]]\nkind = \"uniform\"\nname = \"u\"\nsize = 2\n[[vector]]\nname = \"x\"\nmap = \"u\"\nfill = 1\n";
+    let print = "[[do]]\nop = \"print\"\nvalue = \"x\"\n";
+    let text = repeated(alloc, head, print, 200)?;
+    is(&rt, alloc, text.as_str(), "Ok")?;
+    let text = repeated(alloc, head, print, 201)?;
+    is(&rt, alloc, text.as_str(), "Limit do")?;
+    let text = repeated(alloc, "ranks = 1\n", "[[map]]\n", 65)?;
+    is(&rt, alloc, text.as_str(), "Limit map")?;
+    let text = repeated(alloc, "ranks = 1\n", "[[map]]\n", 64)?;
+    is(&rt, alloc, text.as_str(), "Missing map.0.kind")?;
+    let text = repeated(alloc, "ranks = 1\n", "[[vector]]\n", 65)?;
+    is(&rt, alloc, text.as_str(), "Limit vector")?;
+    let text = repeated(alloc, head, "[[parts]]\n", 64)?;
+    is(&rt, alloc, text.as_str(), "Limit parts")?;
+    let text = repeated(alloc, head, "[[matrix]]\n", 64)?;
+    is(&rt, alloc, text.as_str(), "Limit matrix")?;
+    Ok(())
+}
