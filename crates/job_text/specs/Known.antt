@@ -7,7 +7,8 @@ use Rattle.model_defs.specs.declared.job.Step.{Step}
 use Rattle.model_defs.specs.Maps.{lists_of}
 use Rattle.model_defs.specs.Makers.{Maker, Made, maker_name, gives_value}
 use Rattle.model_defs.specs.Turns.{Each}
-use Rattle.model_defs.specs.Shapes.{Shape, shape_by, no_shape}
+use Rattle.model_defs.specs.declared.shape.Shape.{Shape}
+use Rattle.model_defs.specs.Shapes.{shape_by, no_shape}
 use Rattle.job_text.specs.declared.known.KnownMap.{KnownMap}
 use Rattle.job_text.specs.declared.known.KnownValue.{KnownValue}
 use Rattle.job_text.specs.Names.{Text}

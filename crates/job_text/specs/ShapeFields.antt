@@ -1,5 +1,6 @@
 -- The sort that the code's word stands for.
-use Rattle.model_defs.specs.Shapes.{Sort, Vector, Parts, Matrix, Split}
+use Rattle.model_defs.specs.declared.shape.Sort.{Sort}
+use Rattle.model_defs.specs.declared.shape.Sort.TheVariants.{Vector, Parts, Matrix, Split}
 use Rattle.job_text.specs.declared.shape.Sort.{Sort as CodeSort}
 use Rattle.job_text.specs.declared.shape.Sort.TheVariants as code
 

@@ -1,6 +1,7 @@
 -- Of which sort a value is.
 use Rattle.std.specs.Prelude.{Bool, true, false}
-use Rattle.model_defs.specs.Shapes.{Sort, Vector, Parts, Matrix, Split}
+use Rattle.model_defs.specs.declared.shape.Sort.{Sort}
+use Rattle.model_defs.specs.declared.shape.Sort.TheVariants.{Vector, Parts, Matrix, Split}
 
 abbrev pub is_vector : Sort → Bool
 is_vector Vector = true

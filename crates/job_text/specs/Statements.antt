@@ -1,7 +1,9 @@
 -- The statements: what the operands of each must be. The sorts are tested first, then the maps and sizes, then the cover.
 use Rattle.std.specs.Prelude.{◌==◌, ◌&&◌, ◌||◌, ℕ, Bool, true, not, Option, Some, None, Ok, Err, if◌then◌else◌}
 use Rattle.map_core.specs.Layouts.{Layout}
-use Rattle.model_defs.specs.Shapes.{Sort, Shape, is_split_sort}
+use Rattle.model_defs.specs.declared.shape.Shape.{Shape}
+use Rattle.model_defs.specs.declared.shape.Sort.{Sort}
+use Rattle.model_defs.specs.Shapes.{is_split_sort}
 use Rattle.job_text.specs.declared.fault.JobFault.TheVariants.{BadMap, MapMismatch, NotCovered, WrongSort}
 use Rattle.job_text.specs.Outcomes.{Outcome, ◌>>=◌}
 use Rattle.job_text.specs.Sorts.{is_vector, is_parts, is_matrix}

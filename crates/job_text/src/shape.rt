@@ -1,6 +1,8 @@
 //! What a value is before any number is known.
 ghost use Rattle.std.specs.Prelude.{◌≡◌, ◌<◌, ◌≤◌, ◌==◌, ◌||◌, ◌&&◌, if◌then◌else◌};
-ghost use Rattle.model_defs.specs.Shapes.{Shape, Vector, Parts, Matrix, Split, dense_shape, moved_shape, is_dense, is_split_sort, no_shape};
+ghost use Rattle.model_defs.specs.declared.shape.Shape.{Shape};
+ghost use Rattle.model_defs.specs.declared.shape.Sort.TheVariants.{Vector, Parts, Matrix, Split};
+ghost use Rattle.model_defs.specs.Shapes.{dense_shape, moved_shape, is_dense, is_split_sort, no_shape};
 ghost use Rattle.job_text.specs.Sorts.{is_matrix, is_parts, is_vector};
 
 use std::marker::Model;
@@ -26,7 +28,7 @@ pub struct Shape {
 }
 
 impl Model for Shape {
-    ghost use Rattle.model_defs.specs.Shapes.{Shape};
+    ghost use Rattle.model_defs.specs.declared.shape.Shape.{Shape};
     ghost use Rattle.job_text.specs.ShapeFields.{sort_seen};
 
     ghost Value = { Shape };
