@@ -21,7 +21,8 @@ use std::rc::Rc;
 /// A sparse matrix on the rows that a rank holds (`Tpetra::CrsMatrix` after its `fillComplete`): a structure, which several
 /// matrices may share, and a number for each of its places, in the order of the columns. The structure never changes.
 ///
-/// Rows and columns are global indices where nothing else is said. No call but `copy` takes memory.
+/// Rows and columns are global indices where nothing else is said. No call but `copy` takes memory. As a source of transfers
+/// it has an entry for each row, whose cells carry global columns in ascending order.
 #[derive(Drop)]
 pub struct CrsMatrix<S> {
     alloc: Global,
@@ -129,7 +130,7 @@ impl<S: Scalar> CrsMatrix<S> {
         Ok(())
     }
 
-    /// Multiplies each number by `alpha` (`Tpetra::CrsMatrix::scale`).
+    /// Multiplies each number by `alpha`, which is the first factor (`Tpetra::CrsMatrix::scale`).
     pub fn scale(&mut self, alpha: S)
         ensures numbers { crs_table self.new ≡ scaled S.semiring alpha (crs_table self.old) }
         ensures graph { self.new.graph ≡ self.old.graph }
@@ -189,11 +190,11 @@ fn part<S>(list: &[S], start: usize, end: usize) -> &[S]
     &list[start..end]
 }
 
-/// Multiplies each number.
+/// Multiplies each number by `alpha`.
 fn multiply<S: Scalar>(values: &mut [S], alpha: S)
-    ensures multiplied { values.new ≡ map (λ v. S.semiring.times v alpha) values.old }
+    ensures multiplied { values.new ≡ map (λ v. S.semiring.times alpha v) values.old }
 {
     for value in values.iter_mut() {
-        *value = value.mul(alpha);
+        *value = alpha.mul(*value);
     }
 }
