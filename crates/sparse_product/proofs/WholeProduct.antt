@@ -36,6 +36,12 @@ pub record IsBuilt {S : Type 0} (R : Semiring S) (width count : ℕ) (a : Crs S)
   pub rest : (l j : ℕ) → count ≤ l → local_table made l j ≡ None
 
 module _ {S : Type 0} (R : Semiring S) (L : IsSemiring R) where
+  -- rows without cells have no number
+  pub nothing : (rows : List ℕ) (l j : ℕ) → number_at {S = S} (get_or (map (λ _. []) rows) l []) j ≡ None
+  nothing [] l j = refl
+  nothing (r ∷ rs) zero j = refl
+  nothing (r ∷ rs) (suc l) j = nothing rs l j
+
   pub built-none : (width : ℕ) (a : Crs S) (b : Table S) (row : List (Option S)) (made : RowCells S) → row ≡ replicate width None
       → made ≡ record { rows = a.graph.rows; cells = map (λ _. []) a.graph.rows } → IsBuilt R width 0 a b row made
   built-none width a b row made e m = record {
@@ -44,11 +50,6 @@ module _ {S : Type 0} (R : Semiring S) (L : IsSemiring R) where
     done = λ l j low. absurd (omega arith);
     rest = λ l j le. ap (λ n. local_table n l j) m ∙ nothing a.graph.rows l j;
   }
-    where
-      nothing : (rows : List ℕ) (l j : ℕ) → number_at {S = S} (get_or (map (λ _. []) rows) l []) j ≡ None
-      nothing [] l j = refl
-      nothing (r ∷ rs) zero j = refl
-      nothing (r ∷ rs) (suc l) j = nothing rs l j
 
   pub built-more : (width count : ℕ) (a : Crs S) (b : Table S) (row next : List (Option S)) (made after : RowCells S) (sum : ℕ → Option S) → IsBuilt R width count a b row made
       → after.rows ≡ made.rows → next ≡ replicate width None
