@@ -1,5 +1,5 @@
 -- The sum of two matrices, row after row.
-use Rattle.std.proofs.Common.{◌≡◌, ℕ, zero, suc, ◌+◌, ◌<◌, ◌≤◌, true, false, cond, eqb, List, [], ◌∷◌, length, map, get_or, ◌⊎◌, Option, Some, None, refl, sym, ap, ◌∙◌, arith, inl, inr}
+use Rattle.std.proofs.Common.{◌≡◌, ℕ, suc, ◌+◌, ◌<◌, ◌≤◌, cond, List, [], ◌∷◌, length, map, get_or, ◌⊎◌, Option, Some, None, refl, sym, ap, ◌∙◌, arith, inl, inr}
 use Rattle.std.specs.Prelude.{slice_get}
 use Rattle.std.specs.Option.{option_map}
 use Rattle.std.proofs.lemmas.Bool.{cases_eq, eq-eqb, ne_eqb}
@@ -10,7 +10,7 @@ use Rattle.tables.specs.Sums.{both_or_one}
 use Rattle.map_core.specs.Layouts.{local_index}
 use Rattle.map_core.proofs.Places.{global_index-from, local_index-absent}
 use Rattle.distributor.specs.Entries.{entry_at}
-use Rattle.model_defs.specs.Operations.{combination, scaled, times_there}
+use Rattle.model_defs.specs.Operations.{combination, times_there}
 use Rattle.crs_graph.proofs.GraphPlaces.{none_stands}
 use Rattle.crs_matrix.specs.Rows.{entries_of, local_table, number_in, row_entries, row_table, IsRowCells, RowCells}
 use Rattle.crs_matrix.proofs.Clauses.{entry-of}

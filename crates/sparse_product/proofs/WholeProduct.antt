@@ -1,8 +1,8 @@
 -- The product, row after row.
-use Rattle.std.proofs.Common.{◌≡◌, ℕ, zero, suc, ◌+◌, ◌<◌, ◌≤◌, Bool, true, false, cond, eqb, List, [], ◌∷◌, length, map, get_or, replicate, ◌⊎◌, Option, Some, None, refl, sym, ap, subst, ◌∙◌, arith, inl, inr}
+use Rattle.std.proofs.Common.{◌≡◌, ℕ, zero, suc, ◌+◌, ◌<◌, ◌≤◌, Bool, true, false, cond, List, [], ◌∷◌, length, map, get_or, replicate, ◌⊎◌, Option, Some, None, refl, sym, ap, subst, ◌∙◌, arith, inl, inr}
 use Rattle.std.specs.Prelude.{slice_get, is_some}
 use Rattle.std.specs.List.{zip}
-use Rattle.std.proofs.lemmas.Bool.{cases_eq, eqb-true, eq-eqb, ne_eqb}
+use Rattle.std.proofs.lemmas.Bool.{cases_eq, eq-eqb, ne_eqb}
 use Rattle.std.proofs.lemmas.Grind.{get_or_default_zero}
 use Rattle.std.proofs.lemmas.Option.{get_or_from_slice_get, slice_get-get_or, slice_get_within}
 use Rattle.scalar_laws.specs.Semiring.{Semiring, IsSemiring}
@@ -14,12 +14,12 @@ use Rattle.map_core.specs.Layouts.{local_index}
 use Rattle.map_core.proofs.Places.{global_index-from, local_index-absent, local_index-from}
 use Rattle.model_defs.specs.Operations.{product, times_there}
 use Rattle.crs_graph.specs.Ascending.{IsAscending}
-use Rattle.crs_graph.specs.Graphs.{graph_row, Graph}
+use Rattle.crs_graph.specs.Graphs.{graph_row}
 use Rattle.crs_graph.proofs.AllColumns.{stands-to}
 use Rattle.crs_graph.proofs.Ascending.{AreDistinct-ascending}
 use Rattle.crs_matrix.proofs.Numbers.{slice_get-there}
 use Rattle.sparse_product.proofs.Links.{slice_get-zip}
-use Rattle.crs_matrix.specs.Matrices.{crs_local, crs_number, crs_table, number_at_place, numbers, Crs, IsCrs}
+use Rattle.crs_matrix.specs.Matrices.{crs_number, crs_table, number_at_place, numbers, Crs, IsCrs}
 use Rattle.crs_matrix.specs.Rows.{columns_in, local_table, number_at, number_in, row_table, RowCells}
 use Rattle.sparse_product.specs.Rows.{product_row, with_row}
 use Rattle.sparse_product.proofs.Products.{global-product, no-product, number-absent, number-own, pick}
