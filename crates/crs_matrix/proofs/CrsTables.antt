@@ -118,22 +118,22 @@ module _ {S : Type 0} (R : Semiring S) (alpha : S) (g : Graph) (values : List S)
   old = crs_of g values
 
   abbrev new : Crs S
-  new = record { graph = g; values = map (map (λ v. R.times v alpha)) old.values }
+  new = record { graph = g; values = map (map (λ v. R.times alpha v)) old.values }
 
-  number-scaled : (vs : List S) (p : Option ℕ) → number_at_place (map (λ v. R.times v alpha) vs) p ≡ option_map (λ v. R.times v alpha) (number_at_place vs p)
+  number-scaled : (vs : List S) (p : Option ℕ) → number_at_place (map (λ v. R.times alpha v) vs) p ≡ option_map (λ v. R.times alpha v) (number_at_place vs p)
   number-scaled vs None = refl
-  number-scaled vs (Some p) = slice_get-map (λ v. R.times v alpha) vs p
+  number-scaled vs (Some p) = slice_get-map (λ v. R.times alpha v) vs p
 
-  each-scaled : (o p : Option ℕ) → crs_number new o p ≡ option_map (λ v. R.times v alpha) (crs_number old o p)
+  each-scaled : (o p : Option ℕ) → crs_number new o p ≡ option_map (λ v. R.times alpha v) (crs_number old o p)
   each-scaled None p = refl
   each-scaled (Some l) None = refl
   each-scaled (Some l) (Some c) =
-      ap (λ vs. number_at_place vs (local_index (graph_row g l) c)) (row-map (λ v. R.times v alpha) old.values l)
+      ap (λ vs. number_at_place vs (local_index (graph_row g l) c)) (row-map (λ v. R.times alpha v) old.values l)
       ∙ number-scaled (numbers old l) (local_index (graph_row g l) c)
 
-  pub table-scaled : crs_table (crs_of g (map (λ v. R.times v alpha) values)) ≡ scaled R alpha (crs_table (crs_of g values))
+  pub table-scaled : crs_table (crs_of g (map (λ v. R.times alpha v) values)) ≡ scaled R alpha (crs_table (crs_of g values))
   table-scaled =
-      ap (λ vs. crs_table (record { graph = g; values = vs })) (number_rows-map (λ v. R.times v alpha) g.columns values)
+      ap (λ vs. crs_table (record { graph = g; values = vs })) (number_rows-map (λ v. R.times alpha v) g.columns values)
       ∙ (λ t i j. each-scaled (local_index g.rows i) (local_index g.cols j) t)
 
 -- a place that the structure lacks has no number

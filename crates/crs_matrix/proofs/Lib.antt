@@ -5,3 +5,4 @@ pub mod Clauses
 pub mod NumberRows
 pub mod CrsTables
 pub mod CompletedRows
+pub mod CrsCells

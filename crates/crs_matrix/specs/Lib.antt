@@ -3,3 +3,4 @@ pub mod Stored
 pub mod Matrices
 pub mod RowFaults
 pub mod Completed
+pub mod ByRow

@@ -40,7 +40,7 @@ crs_table m row col = crs_number m (local_index m.graph.rows row) (local_index m
 
 -- the matrix with each number multiplied
 abbrev pub scaled : {S : Type 0} → Semiring S → S → Table S → Table S
-scaled R alpha t i j = option_map (λ v. R.times v alpha) (t i j)
+scaled R alpha t i j = option_map (λ v. R.times alpha v) (t i j)
 
 -- there is a number for each place of the structure
 pub record IsCrs {S : Type 0} (m : Crs S) : Type 0 where

@@ -6,7 +6,8 @@
 //! ranks, and it takes cells that come from them: it is a source and a target of transfers.
 //!
 //! A `CrsMatrix` is a structure, which several matrices may share, with a number for each of its places. Contracts see the
-//! structure and for each row the numbers of its columns, in their order. Its numbers change, its places never do.
+//! structure and for each row the numbers of its columns, in their order. Its numbers change, its places never do. Its
+//! rows go to other ranks as those of a `MatrixFill` do: with global columns, ascending.
 //!
 //! ```text
 //! let mut fill = MatrixFill::new(alloc, rows)?;

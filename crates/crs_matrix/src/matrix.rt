@@ -4,12 +4,15 @@ ghost use Rattle.tables.specs.Sums.{both_or_one};
 ghost use Rattle.tables.specs.Tables.{with_place};
 ghost use Rattle.crs_graph.specs.Graphs.{graph_has, graph_row};
 ghost use Rattle.crs_graph.specs.Packed.{joined};
+ghost use Rattle.crs_matrix.specs.ByRow.{by_row};
 ghost use Rattle.crs_matrix.specs.Matrices.{crs_table, number_rows, numbers, scaled, IsCrs};
 ghost use Rattle.crs_matrix.specs.RowFaults.{IsRowFault};
+ghost use Rattle.crs_matrix.specs.Rows.{row_entries, row_table, IsRowCells};
 
 use crate::RowFault;
 use crs_graph::CrsGraph;
-use map_core::Gid;
+use distributor::DistSource;
+use map_core::{Gid, LocalMap};
 use scalar_laws::Scalar;
 use std::alloc::{AllocError, Global};
 use std::marker::Model;
@@ -18,7 +21,8 @@ use std::rc::Rc;
 /// A sparse matrix on the rows that a rank holds (`Tpetra::CrsMatrix` after its `fillComplete`): a structure, which several
 /// matrices may share, and a number for each of its places, in the order of the columns. The structure never changes.
 ///
-/// Rows and columns are global indices where nothing else is said. No call but `copy` takes memory.
+/// Rows and columns are global indices where nothing else is said. No call but `copy` takes memory. As a source of transfers
+/// it has an entry for each row, whose cells carry global columns in ascending order.
 #[derive(Drop)]
 pub struct CrsMatrix<S> {
     alloc: Global,
@@ -58,6 +62,15 @@ impl<S: Scalar> CrsMatrix<S> {
     {
         let _ = self.graph.row_map();
         &self.graph
+    }
+
+    /// The map of its rows. By row, with global columns, the matrix is the same table.
+    pub fn row_map(&self) -> &Rc<LocalMap>
+        ensures rows { result.now.value ≡ self.now.graph.rows }
+        ensures is_matrix { IsRowCells (by_row self.now) }
+        ensures table { row_table (by_row self.now) ≡ crs_table self.now }
+    {
+        self.graph.row_map()
     }
 
     /// The numbers of a row, which is a local index of the row map, in the order of its columns.
@@ -117,7 +130,7 @@ impl<S: Scalar> CrsMatrix<S> {
         Ok(())
     }
 
-    /// Multiplies each number by `alpha` (`Tpetra::CrsMatrix::scale`).
+    /// Multiplies each number by `alpha`, which is the first factor (`Tpetra::CrsMatrix::scale`).
     pub fn scale(&mut self, alpha: S)
         ensures numbers { crs_table self.new ≡ scaled S.semiring alpha (crs_table self.old) }
         ensures graph { self.new.graph ≡ self.old.graph }
@@ -138,6 +151,35 @@ impl<S: Scalar> CrsMatrix<S> {
     }
 }
 
+impl<S: Scalar> DistSource<S> for CrsMatrix<S> {
+    ghost entries = { λ matrix. row_entries (by_row matrix) };
+
+    #[inline]
+    fn gid(&self, lid: u32) -> Gid {
+        match self.row_map().global_of(lid) {
+            Some(gid) => gid,
+            None => unreachable!(),
+        }
+    }
+
+    #[inline]
+    fn count(&self, lid: u32) -> u64 {
+        self.graph().row(lid).len() as u64
+    }
+
+    #[inline]
+    fn cell(&self, lid: u32, at: u64) -> (Gid, S) {
+        let graph = self.graph();
+        let place = graph.row_by_index(lid)[at as usize] as usize;
+        let col = graph.row(lid)[place];
+        let value = self.row(lid)[place];
+        match graph.col_map().global_of(col) {
+            Some(gid) => (gid, value),
+            None => unreachable!(),
+        }
+    }
+}
+
 /// The part of a list between two places.
 #[inline]
 fn part<S>(list: &[S], start: usize, end: usize) -> &[S]
@@ -148,11 +190,11 @@ fn part<S>(list: &[S], start: usize, end: usize) -> &[S]
     &list[start..end]
 }
 
-/// Multiplies each number.
+/// Multiplies each number by `alpha`.
 fn multiply<S: Scalar>(values: &mut [S], alpha: S)
-    ensures multiplied { values.new ≡ map (λ v. S.semiring.times v alpha) values.old }
+    ensures multiplied { values.new ≡ map (λ v. S.semiring.times alpha v) values.old }
 {
     for value in values.iter_mut() {
-        *value = value.mul(alpha);
+        *value = alpha.mul(*value);
     }
 }

@@ -40,3 +40,24 @@ fn places_and_columns(rt: HostRuntime) -> Result<(), Fail> {
     assert_eq!(rt; fill.get(0, 2), Some(Weighed::new(0, 10)));
     Ok(())
 }
+
+#[test]
+fn compressed_rows(rt: HostRuntime) -> Result<(), Fail> {
+    let alloc = rt.alloc();
+    let fill = small(alloc)?;
+    let domain = LocalMap::from_list(alloc, &[2, 0])?;
+    assert_eq!(rt; fill.columns()?.len(), 3);
+    let mut a = fill.fill_complete(&domain, &[0, 0, 0])?;
+    let before = a.copy()?;
+    a.scale(number(2));
+    assert!(rt; a.sum_into(0, 2, number(1)).is_ok());
+    assert!(rt; a.replace(1, 1, number(0)).is_ok());
+    assert!(rt; a.sum_into(1, 0, number(1)).is_err());
+    assert_eq!(rt; a.row_map().len(), 2);
+    assert_eq!(rt; a.get(0, 0), Some(number(4)));
+    assert_eq!(rt; a.get(0, 2), Some(number(11)));
+    assert_eq!(rt; a.get(1, 1), Some(number(0)));
+    assert_eq!(rt; a.get(1, 0), None);
+    assert_eq!(rt; before.get(0, 2), Some(number(5)));
+    Ok(())
+}

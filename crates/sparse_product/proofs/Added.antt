@@ -1,6 +1,6 @@
 -- Numbers that are added to a row of a table, one after the other.
 use Rattle.std.proofs.Common.{◌≡◌, ℕ, Bool, true, false, cond, eqb, ◌&&◌, List, [], ◌∷◌, ◌++◌, Option, Some, None, refl, sym, ap, ◌∙◌}
-use Rattle.std.proofs.lemmas.Bool.{eqb-true, eq-eqb}
+use Rattle.std.proofs.lemmas.Bool.{eqb-true}
 use Rattle.scalar_laws.specs.Semiring.{Semiring, IsSemiring}
 use Rattle.tables.specs.Sums.{both_or_one, if_there, IsJoining}
 use Rattle.tables.specs.Tables.{Table}

@@ -1,18 +1,17 @@
 -- What a row has after rows were added to it.
-use Rattle.std.proofs.Common.{◌≡◌, ℕ, zero, suc, ◌+◌, ◌<◌, ◌≤◌, Bool, true, false, cond, eqb, List, [], ◌∷◌, ◌++◌, length, map, get_or, set, replicate, Option, Some, None, refl, sym, ap, subst, ◌∙◌, arith, inl, inr, length-set}
+use Rattle.std.proofs.Common.{◌≡◌, ℕ, ◌<◌, ◌≤◌, Bool, true, false, cond, eqb, List, [], ◌∷◌, ◌++◌, length, get_or, set, Option, Some, None, refl, sym, ap, ◌∙◌, arith, length-set}
 use Rattle.std.proofs.lemmas.List.{map-append}
 use Rattle.std.proofs.lemmas.Bool.{eqb-true, ne_eqb}
 use Rattle.scalar_laws.specs.Semiring.{Semiring, IsSemiring}
 use Rattle.tables.specs.Sums.{total, if_there, both_or_one, IsJoining}
-use Rattle.tables.specs.Tables.{Table}
 use Rattle.tables.proofs.Sums.{places-IsJoining, total-push}
 use Rattle.model_defs.specs.Operations.{times_there}
 use Rattle.crs_graph.specs.Ascending.{IsAbove, IsAscending}
-use Rattle.crs_graph.proofs.Ascending.{ascending_tail, not_above}
+use Rattle.crs_graph.proofs.Ascending.{ascending_tail}
 use Rattle.crs_matrix.specs.Rows.{columns_in, number_at}
 use Rattle.sparse_product.specs.Dense.{number_under}
-use Rattle.sparse_product.specs.Rows.{linked_cells, product_row, scaled_at}
-use Rattle.sparse_product.proofs.DenseRows.{number_under-at, number_under-none, number_under-set}
+use Rattle.sparse_product.specs.Rows.{linked_cells, scaled_at}
+use Rattle.sparse_product.proofs.DenseRows.{number_under-at, number_under-set}
 
 -- so far these links, times a factor, were added
 pub record IsGathered {S : Type 0} (R : Semiring S) (factor : S) (links : List (ℕ × S)) (first now : List (Option S)) : Type 0 where

@@ -4,3 +4,4 @@ pub mod Gathered
 pub mod Added
 pub mod Products
 pub mod WholeProduct
+pub mod RowSums

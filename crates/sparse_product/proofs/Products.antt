@@ -1,8 +1,7 @@
 -- A row of a product over the local indices of columns is the row of the textbook's product over their global indices.
-use Rattle.std.proofs.Common.{◌≡◌, ℕ, zero, suc, ◌+◌, ◌<◌, ◌≤◌, Bool, true, false, cond, eqb, ◌||◌, List, [], ◌∷◌, length, map, get_or, Option, Some, None, refl, sym, ap, subst, ◌∙◌, arith}
+use Rattle.std.proofs.Common.{◌≡◌, ℕ, zero, suc, Bool, true, false, cond, eqb, ◌||◌, List, [], ◌∷◌, length, map, get_or, Option, Some, None, refl, sym, ap, ◌∙◌, arith}
 use Rattle.std.specs.Prelude.{slice_get}
-use Rattle.std.specs.List.{zip}
-use Rattle.std.proofs.lemmas.Bool.{eqb-true, eq-eqb, ne_eqb, or_parts}
+use Rattle.std.proofs.lemmas.Bool.{eqb-true, eq-eqb, or_parts}
 use Rattle.std.proofs.lemmas.Option.{slice_get-get_or}
 use Rattle.std.proofs.Math.ListN.{get_or-map}
 use Rattle.scalar_laws.specs.Semiring.{Semiring, IsSemiring}
@@ -13,7 +12,7 @@ use Rattle.tables.proofs.Sums.{places-IsJoining, total-all, total-map, total_bel
 use Rattle.map_core.specs.Layouts.{local_index}
 use Rattle.map_core.proofs.Places.{local_index-absent, local_index-from}
 use Rattle.model_defs.specs.Operations.{times_there}
-use Rattle.crs_graph.specs.Ascending.{IsAbove, IsAscending}
+use Rattle.crs_graph.specs.Ascending.{IsAscending}
 use Rattle.crs_graph.proofs.Ascending.{ascending_tail, not_above, AreDistinct-ascending}
 use Rattle.crs_matrix.specs.Rows.{columns_in, local_table, number_at, RowCells, IsRowCells}
 use Rattle.sparse_product.specs.Rows.{linked_cells, product_row, scaled_at}

@@ -1,8 +1,8 @@
 -- The product, row after row.
-use Rattle.std.proofs.Common.{◌≡◌, ℕ, zero, suc, ◌+◌, ◌<◌, ◌≤◌, Bool, true, false, cond, eqb, List, [], ◌∷◌, length, map, get_or, replicate, ◌⊎◌, Option, Some, None, refl, sym, ap, subst, ◌∙◌, arith, inl, inr}
+use Rattle.std.proofs.Common.{◌≡◌, ℕ, zero, suc, ◌+◌, ◌<◌, ◌≤◌, Bool, true, false, cond, List, [], ◌∷◌, length, map, get_or, replicate, ◌⊎◌, Option, Some, None, refl, sym, ap, subst, ◌∙◌, arith, inl, inr}
 use Rattle.std.specs.Prelude.{slice_get, is_some}
 use Rattle.std.specs.List.{zip}
-use Rattle.std.proofs.lemmas.Bool.{cases_eq, eqb-true, eq-eqb, ne_eqb}
+use Rattle.std.proofs.lemmas.Bool.{cases_eq, eq-eqb, ne_eqb}
 use Rattle.std.proofs.lemmas.Grind.{get_or_default_zero}
 use Rattle.std.proofs.lemmas.Option.{get_or_from_slice_get, slice_get-get_or, slice_get_within}
 use Rattle.scalar_laws.specs.Semiring.{Semiring, IsSemiring}
@@ -14,12 +14,12 @@ use Rattle.map_core.specs.Layouts.{local_index}
 use Rattle.map_core.proofs.Places.{global_index-from, local_index-absent, local_index-from}
 use Rattle.model_defs.specs.Operations.{product, times_there}
 use Rattle.crs_graph.specs.Ascending.{IsAscending}
-use Rattle.crs_graph.specs.Graphs.{graph_row, Graph}
+use Rattle.crs_graph.specs.Graphs.{graph_row}
 use Rattle.crs_graph.proofs.AllColumns.{stands-to}
 use Rattle.crs_graph.proofs.Ascending.{AreDistinct-ascending}
 use Rattle.crs_matrix.proofs.Numbers.{slice_get-there}
 use Rattle.sparse_product.proofs.Links.{slice_get-zip}
-use Rattle.crs_matrix.specs.Matrices.{crs_local, crs_number, crs_table, number_at_place, numbers, Crs, IsCrs}
+use Rattle.crs_matrix.specs.Matrices.{crs_number, crs_table, number_at_place, numbers, Crs, IsCrs}
 use Rattle.crs_matrix.specs.Rows.{columns_in, local_table, number_at, number_in, row_table, RowCells}
 use Rattle.sparse_product.specs.Rows.{product_row, with_row}
 use Rattle.sparse_product.proofs.Products.{global-product, no-product, number-absent, number-own, pick}
@@ -36,6 +36,12 @@ pub record IsBuilt {S : Type 0} (R : Semiring S) (width count : ℕ) (a : Crs S)
   pub rest : (l j : ℕ) → count ≤ l → local_table made l j ≡ None
 
 module _ {S : Type 0} (R : Semiring S) (L : IsSemiring R) where
+  -- rows without cells have no number
+  pub nothing : (rows : List ℕ) (l j : ℕ) → number_at {S = S} (get_or (map (λ _. []) rows) l []) j ≡ None
+  nothing [] l j = refl
+  nothing (r ∷ rs) zero j = refl
+  nothing (r ∷ rs) (suc l) j = nothing rs l j
+
   pub built-none : (width : ℕ) (a : Crs S) (b : Table S) (row : List (Option S)) (made : RowCells S) → row ≡ replicate width None
       → made ≡ record { rows = a.graph.rows; cells = map (λ _. []) a.graph.rows } → IsBuilt R width 0 a b row made
   built-none width a b row made e m = record {
@@ -44,11 +50,6 @@ module _ {S : Type 0} (R : Semiring S) (L : IsSemiring R) where
     done = λ l j low. absurd (omega arith);
     rest = λ l j le. ap (λ n. local_table n l j) m ∙ nothing a.graph.rows l j;
   }
-    where
-      nothing : (rows : List ℕ) (l j : ℕ) → number_at {S = S} (get_or (map (λ _. []) rows) l []) j ≡ None
-      nothing [] l j = refl
-      nothing (r ∷ rs) zero j = refl
-      nothing (r ∷ rs) (suc l) j = nothing rs l j
 
   pub built-more : (width count : ℕ) (a : Crs S) (b : Table S) (row next : List (Option S)) (made after : RowCells S) (sum : ℕ → Option S) → IsBuilt R width count a b row made
       → after.rows ≡ made.rows → next ≡ replicate width None

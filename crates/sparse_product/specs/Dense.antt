@@ -1,5 +1,5 @@
 -- A row with a number, or none, for each of some columns.
-use Rattle.std.specs.Prelude.{◌≡◌, ℕ, ◌<◌, ◌==◌, true, if◌then◌else◌, length, is_some, List, [], ◌∷◌, Option, None, Some}
+use Rattle.std.specs.Prelude.{◌≡◌, ℕ, ◌<◌, ◌==◌, true, if◌then◌else◌, length, is_some, List, [], ◌∷◌, Option, None}
 use Rattle.std.specs.List.{slice_index_or}
 use Rattle.tables.specs.Indices.{stands}
 

@@ -1,9 +1,9 @@
-use Rattle.std.proofs.Common.{◌≡◌, ℕ, suc, ◌+◌, ◌<◌, List, ◌∷◌, Some, None, ◌≤◌, length, get_or, drop, refl, sym, ap, subst, ◌∙◌, arith, rules}
+use Rattle.std.proofs.Common.{◌≡◌, suc, ◌+◌, ◌<◌, ◌∷◌, None, length, get_or, drop, refl, ap, subst, ◌∙◌, arith, rules}
 use Rattle.std.proofs.Math.Seq.{drop-cons}
 use Rattle.std.proofs.lemmas.Option.{get_or_from_slice_get, slice_get_read}
 use Rattle.crs_graph.proofs.Ascending.{stands-at}
 use Rattle.crs_matrix.specs.Rows.{local_table}
-use Rattle.sparse_product.proofs.DenseRows.{taking-empty, taking-reached, taking-row, taking-skip, taking-start, taking-step, drop-past, IsTaking}
+use Rattle.sparse_product.proofs.DenseRows.{taking-empty, taking-row, taking-start, taking-step, drop-past, IsTaking}
 use Rattle.sparse_product.proofs.dense_row.take_numbers.Goals as goal
 
 pub loop-place-init : goal.loop-place-init

@@ -1,4 +1,4 @@
-use Rattle.std.proofs.Common.{◌≡◌, ◌+◌, ◌<◌, ◌≤◌, [], length, get_or, take, sym, ap, subst, ◌∙◌, arith}
+use Rattle.std.proofs.Common.{[], length, get_or, take, sym, subst, arith}
 use Rattle.std.proofs.lemmas.List.{take_all}
 use Rattle.sparse_product.proofs.Gathered.{gathered-more, gathered-none, IsGathered}
 use Rattle.sparse_product.proofs.Links.{take_push, AreLinks-at}

@@ -1,5 +1,5 @@
-use Rattle.std.proofs.Common.{◌≡◌, ℕ, ◌+◌, ◌<◌, ◌≤◌, ◌++◌, ◌∷◌, [], length, get_or, take, map, sym, ap, subst, ◌∙◌, arith}
-use Rattle.std.proofs.lemmas.List.{map-append, take_all, take_more}
+use Rattle.std.proofs.Common.{ℕ, ◌<◌, ◌++◌, ◌∷◌, [], length, get_or, map, sym, ap, subst, ◌∙◌, arith}
+use Rattle.std.proofs.lemmas.List.{map-append, take_more}
 use Rattle.sparse_product.specs.Rows.{linked_cells, AreLinks}
 use Rattle.sparse_product.proofs.Links.{AreLinks-rows}
 use Rattle.sparse_product.proofs.linked_rows.link_rows.Goals as goal

@@ -1,4 +1,4 @@
-use Rattle.std.proofs.Common.{◌≡◌, ℕ, ◌+◌, ◌<◌, ◌≤◌, None, [], List, length, map, replicate, get_or, sym, ap, subst, ◌∙◌, arith, rules}
+use Rattle.std.proofs.Common.{◌≡◌, None, [], length, map, replicate, get_or, sym, ap, subst, ◌∙◌, arith, rules}
 use Rattle.std.specs.List.{concat, zip}
 use Rattle.std.proofs.lemmas.List.{length-map, length-replicate}
 use Rattle.tables.specs.Indices.{AreBelow}

@@ -1,7 +1,4 @@
-use Rattle.std.proofs.Common.{◌≡◌, ℕ, ◌<◌, None, length, replicate}
-use Rattle.std.specs.List.{zip}
-use Rattle.crs_graph.specs.Graphs.{graph_row}
-use Rattle.crs_matrix.specs.Matrices.{numbers}
+use Rattle.std.proofs.Common.{length}
 use Rattle.crs_matrix.specs.Rows.{local_table}
 use Rattle.sparse_product.proofs.WholeProduct.{IsBuilt}
 use Rattle.sparse_product.proofs.product.local_product.Given as goal

@@ -1,4 +1,4 @@
-use Rattle.std.proofs.Common.{◌≡◌, ◌<◌, ◌++◌, ◌∷◌, [], length, set, Some, sym, ap, subst, arith}
+use Rattle.std.proofs.Common.{◌<◌, length, set, Some, sym, ap, subst, arith}
 use Rattle.sparse_product.specs.Dense.{IsReached}
 use Rattle.sparse_product.proofs.DenseRows.{reached-push}
 use Rattle.sparse_product.proofs.dense_row.DenseRow.add.Goals as goal

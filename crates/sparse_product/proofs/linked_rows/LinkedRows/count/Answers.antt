@@ -1,4 +1,4 @@
-use Rattle.std.proofs.Common.{◌≡◌, ◌+◌, ◌-◌, ◌<◌, [], length, get_or, ap, subst, ◌∙◌, arith}
+use Rattle.std.proofs.Common.{◌+◌, ◌-◌, ◌<◌, [], length, get_or, ap, ◌∙◌, arith}
 use Rattle.crs_graph.specs.Packed.{slices}
 use Rattle.sparse_product.proofs.Links.{at_zero, row-last, row-length, row-ordered}
 use Rattle.sparse_product.proofs.linked_rows.LinkedRows.count.Goals as goal
