@@ -13,6 +13,8 @@
 #![tactic(auto)]
 
 mod apply;
+#[cfg(test)]
+mod tests;
 mod transposed;
 
 pub use apply::local_apply;
