@@ -6,8 +6,8 @@ cd "$(dirname "$0")/.."
 work=$(mktemp -d)
 trap 'rm -rf "$work"' EXIT
 
-(cd crates/play_bench && rt run >"$work/build.log" 2>&1) || { cat "$work/build.log" >&2; exit 1; }
-proved=crates/play_bench/out/play_bench
+(cd crates/schedule_bench && rt run >"$work/build.log" 2>&1) || { cat "$work/build.log" >&2; exit 1; }
+proved=crates/schedule_bench/out/schedule_bench
 
 # The least time of 9 runs of a program with its words, in microseconds.
 least() {

@@ -1,13 +1,12 @@
-//! Times the play of 32 ranks: `fifo`, `lifo` or `seed`, and the number of phases, 4 without words. bench/play.sh runs it
-//! beside the same play in C++. With `text` or `read` it makes the text of a schedule with so many lines, and reads it too.
-//! bench/schedule.sh runs this.
+//! Times the play of 32 ranks: `fifo`, `lifo` or `seed`, and the number of phases, 4 without words.
+//! bench/play.sh runs it beside the same play in C++.
 #![tactic(auto)]
 
 ghost use Rattle.std.specs.Prelude.{◌≡◌, IfOk, length};
 
 use gather_example::play_tellers;
 use outside::MailRoom;
-use schedule::{Order, read_schedule};
+use schedule::Order;
 use std::alloc::{AllocError, Global};
 use std::{env, io};
 
@@ -24,27 +23,6 @@ fn words(alloc: Global) -> Result<Vec<Vec<u8>>, AllocError>
     Ok(words)
 }
 
-/// The text of a schedule with so many lines, 8 bytes each.
-fn text(alloc: Global, lines: u32) -> Result<Vec<u8>, AllocError> {
-    let mut text = Vec::new(alloc);
-    for _ in 0..lines {
-        text.extend_from_slice(b"12 30 7\n")?;
-    }
-    Ok(text)
-}
-
-/// How many entries a schedule with so many lines has, where it is read, and else how many bytes.
-fn read(alloc: Global, lines: u32, is_read: bool) -> Result<usize, AllocError> {
-    let text = text(alloc, lines)?;
-    if !is_read {
-        return Ok(text.len());
-    }
-    match read_schedule(alloc, &text) {
-        Ok(entries) => Ok(entries.len()),
-        Err(_) => Ok(0),
-    }
-}
-
 fn main(rt: HostRuntime) -> io::Result<()> {
     let word = env::args(&rt)?.nth(1);
     let order = match word.as_ref().map(|word| word.as_str()) {
@@ -54,14 +32,9 @@ fn main(rt: HostRuntime) -> io::Result<()> {
     };
     let count = env::args(&rt)?.nth(2);
     let phases = match count.as_ref().map(|count| count.as_str().parse::<u32>()) {
-        Some(Ok(phases)) if phases < 10_000_000 => phases,
+        Some(Ok(phases)) if phases < 1_000_000 => phases,
         _ => 4,
     };
-    match word.as_ref().map(|word| word.as_str()) {
-        Some("text") => return println!(rt; "{}", read(rt.alloc(), phases, false)?),
-        Some("read") => return println!(rt; "{}", read(rt.alloc(), phases, true)?),
-        _ => (),
-    }
     let words = words(rt.alloc())?;
     let mut wire = MailRoom::new(rt.alloc());
     match play_tellers(rt.alloc(), &words, phases, phases, &mut wire, &order) {
