@@ -1,5 +1,5 @@
 -- Which letters the ranks send, and what is in them.
-use Rattle.std.specs.Prelude.{ℕ, ◌==◌, ◌&&◌, ◌||◌, nat_lt, Bool, if◌then◌else◌, List, [], ◌++◌, replicate}
+use Rattle.std.specs.Prelude.{ℕ, ◌==◌, ◌&&◌, ◌||◌, nat_lt, Bool, if◌then◌else◌, List, [], ◌++◌, Some, replicate}
 use Rattle.std.specs.List.{filter, flat_map}
 use Rattle.outside.specs.declared.name.Name.{Name}
 use Rattle.peers.specs.Protocols.{Letter, Protocol, only}
@@ -29,11 +29,13 @@ told_part n said = if n.phase == 0 then [] else said
 abbrev pub told : List ℕ → Name → List Letter → List ℕ
 told word n letters = word ++ told_part n (heard n.from letters)
 
--- the protocol of so many ranks, rounds among all of them, and phases, where each rank has its word
+-- The protocol of so many ranks, rounds among all of them, and phases, where each rank has its word. Its one result is what
+-- it heard.
 abbrev pub gather : (ℕ → List ℕ) → ℕ → ℕ → ℕ → Protocol
 gather words ranks rounds phases = record {
   ranks = ranks;
   names = gather_names ranks rounds phases;
   before = gather_before ranks rounds phases;
   content = λ n letters. told (words n.from) n (only (gather_before ranks rounds phases n) letters);
+  results = λ rank letters v i j. Some (heard rank letters);
 }

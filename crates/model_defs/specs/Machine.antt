@@ -2,7 +2,7 @@
 -- rank's pieces are what it makes of the letters given to it.
 use Rattle.std.specs.Prelude.{ℕ, ◌+◌, ◌*◌, Bool, true, false, ◌&&◌, ◌==◌, nat_lt, List, [], ◌∷◌, map, length, take, drop, filter, Option, None, Some}
 use Rattle.std.specs.List.{slice_index_or}
-use Rattle.std.specs.Option.{unwrap_or}
+use Rattle.std.specs.Option.{option_map, unwrap_or}
 use Rattle.letter_codec.specs.Letters.{letter_bytes, number_bytes}
 use Rattle.scalar_laws.specs.Semiring.{Semiring}
 use Rattle.scalar_laws.specs.Conversions.{Conversions}
@@ -19,7 +19,7 @@ use Rattle.model_defs.specs.Phases.{About, RegisterMap, SendNumbers, Phase, phas
 use Rattle.model_defs.specs.Plans.{One}
 use Rattle.model_defs.specs.Stages.{Arrivals, rank_entries, pieces}
 use Rattle.model_defs.specs.Letters.{letter_names, letter_words, letter_places}
-use Rattle.peers.specs.Protocols.{Protocol, Letter, only}
+use Rattle.peers.specs.Protocols.{Protocol, Letter, Results, only}
 
 -- how long the index part of a letter is
 abbrev pub index_length : List ℕ → ℕ
@@ -79,17 +79,22 @@ module _ {S : Type 0} (R : Semiring S) (F : Conversions S) (job : Job) (files : 
   abbrev pub letter_content : Name → List Letter → List ℕ
   letter_content n g = letter_of_phase (phase_of n) n (only (names_before n (letter_names job files)) g)
 
+  -- rank p's piece of a value, where these letters were given
+  abbrev pub piece : ℕ → ℕ → List Letter → Table S
+  piece p v g = pieces R F job files p (arrivals p g) v
+
+  -- the numbers of a rank's pieces, as bytes
+  abbrev pub piece_bytes : ℕ → List Letter → Results
+  piece_bytes p g v i j = option_map F.to_wire (piece p v g i j)
+
   abbrev pub job_protocol : Protocol
   job_protocol = record {
     ranks = job.ranks;
     names = letter_names job files;
     before = λ n. names_before n (letter_names job files);
     content = letter_content;
+    results = piece_bytes;
   }
-
-  -- rank p's piece of a value, where these letters were given
-  abbrev pub piece : ℕ → ℕ → List Letter → Table S
-  piece p v g = pieces R F job files p (arrivals p g) v
 
   -- the ranks' pieces together: of a whole value their union, else each by itself
   abbrev pub united : Bool → Value S → Value S

@@ -1,5 +1,5 @@
 -- Which letters a set of ranks sends, what must come before each, and what its sender makes of what it was given.
-use Rattle.std.specs.Prelude.{◌≡◌, ℕ, ◌<◌, Bool, true, not, ◌&&◌, if◌then◌else◌, List, [], ◌∷◌, ◌++◌}
+use Rattle.std.specs.Prelude.{◌≡◌, ℕ, ◌<◌, Bool, true, not, ◌&&◌, if◌then◌else◌, List, [], ◌∷◌, ◌++◌, Option}
 use Rattle.std.specs.List.{filter, list_all, list_any}
 use Rattle.std.specs.List.Sorted.{IsStrictlySortedBy}
 use Rattle.std.specs.declared.cmp.Ordering.{Ordering}
@@ -19,13 +19,19 @@ Letter = Name × List ℕ
 abbrev pub stands_in : List Name → Name → Bool
 stands_in names n = list_any (same_name n) names
 
+-- the results of a rank: the bytes of each result, by its number, at each row and column that it has
+abbrev pub Results : Type 0
+Results = ℕ → ℕ → ℕ → Option (List ℕ)
+
 -- Which letters the ranks below `ranks` send. Before a letter is posted, its sender was given the letters `before` it.
--- Its bytes are what its sender makes of the letters given so far, in order of delivery.
+-- Its bytes are what its sender makes of the letters given so far, in order of delivery. What a rank has in the end are its
+-- results of the letters given to it.
 pub record Protocol : Type 0 where
   pub ranks : ℕ
   pub names : List Name
   pub before : Name → List Name
   pub content : Name → List Letter → List ℕ
+  pub results : ℕ → List Letter → Results
 
 -- of these letters those with one of these names
 abbrev pub only : List Name → List Letter → List Letter
