@@ -26,3 +26,5 @@ pub mod Laws
 pub mod ShapeLists
 pub mod BoundLaws
 pub mod PhaseLaws
+pub mod Local
+pub mod Numbers

@@ -17,7 +17,7 @@ mod cells;
 mod files;
 mod indices;
 pub mod laws;
-mod own_map;
+mod own_maps;
 mod places;
 mod share;
 mod sharing;
@@ -25,5 +25,6 @@ mod sharing;
 mod tests;
 mod values;
 
+pub use own_maps::own_map;
 pub use share::Share;
 pub use sharing::share_of;

@@ -9,7 +9,7 @@ ghost use Rattle.rank_share.specs.Conditions.{HasFile, file_at};
 ghost use Rattle.rank_share.specs.Shares.{origin_lines, place_in};
 
 use crate::cells::{array_cells, coordinate_cells, fill_cells, part_cells};
-use crate::own_map::own_map;
+use crate::own_maps::own_map;
 use model_defs::{FileData, Job, Line, ListOf, Origin, PartsSpec, VectorSpec};
 use std::alloc::{AllocError, Global};
 

@@ -24,7 +24,7 @@ fn listed(alloc: Global, gids: &[u64]) -> Result<Rc<LocalMap>, AllocError>
 
 /// The indices that the rank `me` has on map `m` of the job, in its order (`Tpetra::Map`). Only a map of lists takes
 /// memory for each index, and then for those of this rank alone. `Err` means that memory ran out.
-pub(crate) fn own_map(alloc: Global, job: &Job, m: u32, me: u32) -> Result<Rc<LocalMap>, AllocError>
+pub fn own_map(alloc: Global, job: &Job, m: u32, me: u32) -> Result<Rc<LocalMap>, AllocError>
     requires valid { IsValid job.now }
     requires known { m < length job.now.maps }
     requires rank { me < job.now.ranks }

@@ -5,7 +5,7 @@ use Rattle.map_core.proofs.Blocks.{length-runs}
 use Rattle.map_core.proofs.Cyclic.{length-cyclic}
 use Rattle.map_core.proofs.Contiguous.{length-uniform}
 use Rattle.rank_share.proofs.Maps.{map-read, form-at, small-at, few}
-use Rattle.rank_share.proofs.own_map.own_map.Goals as goal
+use Rattle.rank_share.proofs.own_maps.own_map.Goals as goal
 
 pub list-requires : goal.list-requires
 list-requires c = record {

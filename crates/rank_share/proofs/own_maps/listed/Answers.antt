@@ -1,7 +1,7 @@
 use Rattle.std.proofs.Common.{subst}
 use Rattle.map_core.specs.Faults.{IsFaultOf}
 use Rattle.rank_share.proofs.Rising.{no_repeat}
-use Rattle.rank_share.proofs.own_map.listed.Goals as goal
+use Rattle.rank_share.proofs.own_maps.listed.Goals as goal
 
 pub unreachable-requires : goal.unreachable-requires
 unreachable-requires c =
