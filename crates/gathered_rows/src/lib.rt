@@ -21,7 +21,7 @@ ghost use Rattle.model_defs.specs.FileMatrix.{file_matrix};
 ghost use Rattle.gathered_rows.specs.Conditions.{CanBeGathered};
 
 use crate::dealing::{bring_dealt, new_blocks};
-use crate::sums::sums_of;
+pub use sums::sums_of;
 use model_defs::{Cell, FileData, Mirror};
 use scalar_laws::Scalar;
 use std::alloc::{AllocError, Global};
