@@ -1,0 +1,5 @@
+pub mod Inputs
+pub mod Results
+pub mod Steps
+pub mod Workers
+pub mod Ranks

@@ -1,0 +1,79 @@
+//! The cells of a vector by global indices.
+ghost use Rattle.std.specs.Prelude.{◌≡◌, ◌<◌, ◌++◌, length, ℕ, true, false, IfOk, OnOk};
+ghost use Rattle.tables.specs.Tables.{AreInOrder, found, table_of};
+ghost use Rattle.rank_values.specs.Vectors.{HasOver, global_table, is_over_there};
+ghost use Rattle.rank_values.specs.Rows.{is_row_over, row_of};
+
+use gathered_rows::sums_of;
+use multivector::MultiVector;
+use scalar_laws::Scalar;
+use std::alloc::{AllocError, Global};
+use tables::Cell;
+
+/// Puts the cells of a row at the end.
+fn add_row<S: Scalar>(
+    cells: &mut Vec<Cell<S>>,
+    vector: &MultiVector<S>,
+    lid: u32,
+    row: u64,
+) -> Result<(), AllocError>
+    requires known { lid < length vector.now.map }
+    ensures cells { OnOk result (cells.new.items ≡ cells.old.items ++ row_of vector.now lid row) }
+{
+    for col in 0..vector.columns() {
+        cells.push(Cell {
+            row,
+            col: col as u64,
+            value: vector.cell(lid, col),
+        })?;
+    }
+    Ok(())
+}
+
+/// Cells put in order by row, then column, those of one place added. `Err` means that memory ran out.
+fn in_order<S: Scalar>(
+    alloc: Global,
+    cells: Vec<Cell<S>>,
+) -> Result<Vec<Cell<S>>, AllocError>
+    ensures in_order { IfOk result (λ sorted. AreInOrder sorted.items) }
+    ensures cells { IfOk result (λ sorted. found sorted.items ≡ table_of S.semiring cells.items) }
+{
+    let mut blocks = Vec::new(alloc);
+    blocks.push(cells)?;
+    sums_of(alloc, blocks)
+}
+
+/// The cells of a vector by global index and column, ascending by row, then column. `Err` means that memory ran out.
+pub fn global_cells<S: Scalar>(
+    alloc: Global,
+    vector: &MultiVector<S>,
+) -> Result<Vec<Cell<S>>, AllocError>
+    ensures in_order { IfOk result (λ cells. AreInOrder cells.items) }
+    ensures cells { IfOk result (λ cells. found cells.items ≡ global_table vector.now) }
+{
+    let map = vector.map();
+    let mut cells = Vec::new(alloc);
+    for lid in 0..map.len() {
+        let Some(row) = map.global_of(lid) else {
+            unreachable!();
+        };
+        add_row(&mut cells, vector, lid, row)?;
+    }
+    in_order(alloc, cells)
+}
+
+/// Whether some number of the first columns of a row is over.
+fn is_row_over<S: Scalar>(vector: &MultiVector<S>, lid: u32) -> bool
+    requires known { lid < length vector.now.map }
+    ensures over { result ≡ is_row_over S.conversions vector.now lid }
+{
+    (0..vector.columns()).any(|col| vector.cell(lid, col).is_over())
+}
+
+/// Whether some number of the vector is over. It takes no memory.
+pub fn is_vector_over<S: Scalar>(vector: &MultiVector<S>) -> bool
+    ensures some { result ≡ true → HasOver S.conversions (global_table vector.now) }
+    ensures none { result ≡ false → (i j : ℕ) → is_over_there S.conversions (global_table vector.now i j) ≡ false }
+{
+    (0..vector.map().len()).any(|lid| is_row_over(vector, lid))
+}
