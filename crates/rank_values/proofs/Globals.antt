@@ -42,7 +42,7 @@ none_stands xs g none = elim (cases_Bool (stands g xs)) [
 
 -- two indices at one place are one
 pub same_index : (xs : List ℕ) (a b l : ℕ) → local_index xs a ≡ Some l → local_index xs b ≡ Some l → a ≡ b
-same_index xs a b l p q = same_Some (sym (global_index-from xs a l p) ∙ global_index-from xs b l q)
+same_index xs a b l p q = same_Some a b (sym (global_index-from xs a l p) ∙ global_index-from xs b l q)
 
 module _ {S : Type 0} where
   -- a cell of a vector by its global index
@@ -80,7 +80,7 @@ module _ {S : Type 0} where
               test = elim (cases_Bool (eqb g i)) [
                 | inl on ↦
                     let one : g ≡ i = eqb-true g i on in
-                    let place : lid ≡ l = same_Some (sym there ∙ ap (local_index v.map) one ∙ e) in
+                    let place : lid ≡ l = same_Some lid l (sym there ∙ ap (local_index v.map) one ∙ e) in
                     eq-eqb lid l place ∙ sym on
                 | inr off ↦ elim (cases_Bool (eqb lid l)) [
                     | inl on ↦

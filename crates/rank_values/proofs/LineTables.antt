@@ -65,7 +65,7 @@ module _ {S : Type 0} (R : Semiring S) (F : Conversions S) where
       → lines_table R F (lines ++ l ∷ []) ≡ with_place (lines_table R F lines) l.row l.col (both_or_one R.plus (lines_table R F lines l.row l.col) (Some (number_of R F l.value)))
   lines-push lines l =
       ap (table_of R) (flat_map-append (entry_numbers R F Plain) lines (l ∷ []))
-      ∙ table_of-push R (flat_map (entry_numbers R F Plain) lines) (number_cell R F (own_cell l))
+      ∙ table_of-push (flat_map (entry_numbers R F Plain) lines) (number_cell R F (own_cell l))
 
   -- a line that names no cell
   pub line-outside : (list : List ℕ) (columns : ℕ) (lines : List Line) (l : Line) → (stands l.row list && ltb l.col columns) ≡ false
@@ -88,7 +88,7 @@ module _ {S : Type 0} (R : Semiring S) (F : Conversions S) where
       let n = number_of R F l.value in
       let on : (stands l.row v.map && ltb l.col v.columns) ≡ true = ap (λ b. b && ltb l.col v.columns) (some_stands v.map l.row lid there) ∙ lt-ltb l.col v.columns low in
       let here : lines_on R F v.map v.columns lines l.row l.col ≡ Some (unwrap_or (t l.row l.col) R.nought) = ap (λ b. cond b (Some (unwrap_or (t l.row l.col) R.nought)) None) on in
-      let was : old ≡ unwrap_or (t l.row l.col) R.nought = same_Some (sym (global-at v l.row l.col lid there ∙ cell) ∙ ap (λ u. u l.row l.col) is ∙ here) in
+      let was : old ≡ unwrap_or (t l.row l.col) R.nought = same_Some old (unwrap_or (t l.row l.col) R.nought) (sym (global-at v l.row l.col lid there ∙ cell) ∙ ap (λ u. u l.row l.col) is ∙ here) in
       global-set v w l.row lid l.col (R.plus old n) there same set
       ∙ (λ k. with_place (is k) l.row l.col (Some (R.plus (was k) n)))
       ∙ sym (ap (completed R (λ i. stands i v.map) v.columns) (lines-push lines l)

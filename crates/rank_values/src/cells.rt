@@ -18,7 +18,7 @@ fn add_row<S: Scalar>(
     row: u64,
 ) -> Result<(), AllocError>
     requires known { lid < length vector.now.map }
-    ensures cells { OnOk result (cells.new.items ≡ cells.old.items ++ row_of vector.now lid row) }
+    ensures cells { OnOk result (cells.new.items ≡ cells.old.items ++ row_of vector.now lid row vector.now.columns) }
 {
     for col in 0..vector.columns() {
         cells.push(Cell {
@@ -62,12 +62,17 @@ pub fn global_cells<S: Scalar>(
     in_order(alloc, cells)
 }
 
-/// Whether some number of the first columns of a row is over.
+/// Whether some number of a row is over.
 fn is_row_over<S: Scalar>(vector: &MultiVector<S>, lid: u32) -> bool
     requires known { lid < length vector.now.map }
-    ensures over { result ≡ is_row_over S.conversions vector.now lid }
+    ensures over { result ≡ is_row_over S.conversions vector.now lid vector.now.columns }
 {
-    (0..vector.columns()).any(|col| vector.cell(lid, col).is_over())
+    for col in 0..vector.columns() {
+        if vector.cell(lid, col).is_over() {
+            return true;
+        }
+    }
+    false
 }
 
 /// Whether some number of the vector is over. It takes no memory.
@@ -75,5 +80,10 @@ pub fn is_vector_over<S: Scalar>(vector: &MultiVector<S>) -> bool
     ensures some { result ≡ true → HasOver S.conversions (global_table vector.now) }
     ensures none { result ≡ false → (i j : ℕ) → is_over_there S.conversions (global_table vector.now i j) ≡ false }
 {
-    (0..vector.map().len()).any(|lid| is_row_over(vector, lid))
+    for lid in 0..vector.map().len() {
+        if is_row_over(vector, lid) {
+            return true;
+        }
+    }
+    false
 }

@@ -1,10 +1,11 @@
 //! Vectors of lines.
-ghost use Rattle.std.specs.Prelude.{◌≡◌, ◌<◌, ◌++◌, ◌∷◌, [], IfOk, OnOk};
+ghost use Rattle.std.specs.Prelude.{◌≡◌, ◌++◌, ◌∷◌, [], List, IfOk};
+ghost use Rattle.mm_text.specs.declared.file_data.Line.{Line};
 ghost use Rattle.model_defs.specs.FileMatrix.{number_of};
 ghost use Rattle.rank_values.specs.Vectors.{global_table, lines_on};
 
 use map_core::LocalMap;
-use model_defs::Line;
+use mm_text::Line;
 use multivector::MultiVector;
 use scalar_laws::Scalar;
 use std::alloc::{AllocError, Global};

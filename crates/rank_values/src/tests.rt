@@ -2,7 +2,7 @@
 
 use crate::{global_cells, is_vector_over, scaled_vector, sum_of_vectors, vector_of_lines};
 use map_core::LocalMap;
-use model_defs::Line;
+use mm_text::Line;
 use multivector::MultiVector;
 use scalar_laws::{Scalar, Weighed};
 use std::alloc::{AllocError, Global};
