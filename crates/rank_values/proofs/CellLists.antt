@@ -1,6 +1,7 @@
 -- The cells of a vector, listed row after row.
-use Rattle.std.proofs.Common.{◌≡◌, ℕ, zero, suc, ◌+◌, ◌<◌, ◌≤◌, ◌⊎◌, Bool, true, false, ◌&&◌, cond, ltb, eqb, List, [], ◌∷◌, ◌++◌, length, get_or, Option, None, Some, inl, inr, refl, sym, ap, ◌∙◌, arith, append-nil}
+use Rattle.std.proofs.Common.{◌≡◌, ℕ, zero, suc, ◌+◌, ◌*◌, ◌<◌, ◌≤◌, ◌⊎◌, Bool, true, false, ◌&&◌, cond, ltb, eqb, List, [], ◌∷◌, ◌++◌, length, get_or, Option, None, Some, inl, inr, refl, sym, ap, ◌∙◌, arith, append-nil}
 use Rattle.std.specs.List.{flat_map}
+use Rattle.std.specs.Prelude.{slice_get}
 use Rattle.std.specs.Option.{option_and_then}
 use Rattle.std.proofs.lemmas.Bool.{cases_Bool, cases_eq, cases_lt, eqb-true, eq-eqb, ne_eqb, lt-ltb, le-ltb}
 use Rattle.std.proofs.lemmas.List.Concat.{flat_map-append}
@@ -23,8 +24,12 @@ use Rattle.rank_values.proofs.Globals.{global-at, global-none}
 pub count-push : {A : Type 0} (f : ℕ → List A) (n : ℕ) → flat_map f (count_from 0 (n + 1)) ≡ flat_map f (count_from 0 n) ++ f n
 count-push f n =
     ap (flat_map f) (count_from-append 0 n 1)
+    ∙ (λ t. flat_map f (count_from 0 n ++ count_from (start t) 1))
     ∙ flat_map-append f (count_from 0 n) (n ∷ [])
     ∙ ap (λ xs. flat_map f (count_from 0 n) ++ xs) (append-nil (f n))
+  where
+    start : 0 + n ≡ n
+    start = omega arith
 
 module _ {S : Type 0} {R : Semiring S} (L : IsSemiring R) where
   right-none : (o : Option S) → both_or_one R.plus o None ≡ o
@@ -42,7 +47,7 @@ module _ {S : Type 0} {R : Semiring S} (L : IsSemiring R) where
 
   -- the cells of a row
   row-cells : (f : ℕ → Option S) (g n i k : ℕ) → table_of R (flat_map (λ j. cell_if g j (f j)) (count_from 0 n)) i k ≡ cond (eqb g i && ltb k n) (f k) None
-  row-cells f g zero i k = go (eqb g i)
+  row-cells f g zero i k = go (eqb g i) ∙ ap (λ b. cond (eqb g i && b) (f k) None) (sym (le-ltb k 0 (omega arith)))
     where
       go : (b : Bool) → (let none : Option S = None in none ≡ cond (b && false) (f k) None)
       go true = refl
@@ -66,22 +71,22 @@ module _ {S : Type 0} {R : Semiring S} (L : IsSemiring R) where
             let c : ltb k (suc n) ≡ true = lt-ltb k (suc n) (omega arith) in
             (λ t. both_or_one R.plus (cond (a t) (f k) None) (cond (b t) (f n) None)) ∙ right-none (f k) ∙ sym (ap (λ x. cond x (f k) None) c)
         | inr high ↦ elim (cases_eq n k) [
-            | inl same ↦
-                let a : ltb k n ≡ false = le-ltb k n high in
-                let b : eqb n k ≡ true = eq-eqb n k same in
-                let c : ltb k (suc n) ≡ true = lt-ltb k (suc n) (omega arith) in
-                (λ t. both_or_one R.plus (cond (a t) (f k) None) (cond (b t) (f (same t)) None)) ∙ sym (ap (λ x. cond x (f k) None) c)
-            | inr other ↦
-                let a : ltb k n ≡ false = le-ltb k n high in
-                let b : eqb n k ≡ false = ne_eqb n k other in
-                let past : suc n ≤ k = later high other in
-                let c : ltb k (suc n) ≡ false = le-ltb k (suc n) past in
-                (λ t. both_or_one R.plus (cond (a t) (f k) None) (cond (b t) (f n) None)) ∙ sym (ap (λ x. cond x (f k) None) c)
-          ]
+          | inl same ↦
+              let a : ltb k n ≡ false = le-ltb k n high in
+              let b : eqb n k ≡ true = eq-eqb n k same in
+              let c : ltb k (suc n) ≡ true = lt-ltb k (suc n) (omega arith) in
+              (λ t. both_or_one R.plus (cond (a t) (f k) None) (cond (b t) (f (same t)) None)) ∙ sym (ap (λ x. cond x (f k) None) c)
+          | inr other ↦
+              let a : ltb k n ≡ false = le-ltb k n high in
+              let b : eqb n k ≡ false = ne_eqb n k other in
+              let past : suc n ≤ k = later high other in
+              let c : ltb k (suc n) ≡ false = le-ltb k (suc n) past in
+              (λ t. both_or_one R.plus (cond (a t) (f k) None) (cond (b t) (f n) None)) ∙ sym (ap (λ x. cond x (f k) None) c)
+        ]
       ]
         where
           later : n ≤ k → (n ≡ k → ⊥) → suc n ≤ k
-          later low apart = elim (cases_lt n k) [ | inl l ↦ omega arith | inr h ↦ absurd (apart (omega arith)) ]
+          later low apart = elim (cases_lt n k) [ inl l ↦ omega arith | inr h ↦ absurd (apart (omega arith)) ]
 
   -- a row has its columns alone
   all-columns : (v : VectorState S) (l k : ℕ) (b : Bool) → cond (b && ltb k v.columns) (vector_table v l k) None ≡ cond b (vector_table v l k) None
@@ -94,10 +99,12 @@ module _ {S : Type 0} {R : Semiring S} (L : IsSemiring R) where
 
       go : (b : Bool) → ltb k v.columns ≡ b → cond (ltb k v.columns) (vector_table v l k) None ≡ vector_table v l k
       go true e = ap (λ b. cond b (vector_table v l k) None) e
-      go false e = ap (λ b. cond b (vector_table v l k) None) e ∙ sym (ap (λ b. cond (ltb l (length v.map) && b) _ None) e ∙ off (ltb l (length v.map)) _)
+      go false e =
+          ap (λ b. cond b (vector_table v l k) None) e
+          ∙ sym (ap (λ b. cond (ltb l (length v.map) && b) (slice_get v.values (l * v.columns + k)) None) e ∙ off (ltb l (length v.map)) (slice_get v.values (l * v.columns + k)))
 
   -- the numbers of the first rows, by global index
-  first_rows : VectorState S → ℕ → Table S
+  abbrev first_rows : VectorState S → ℕ → Table S
   first_rows v n i j = option_and_then (λ l. cond (ltb l n) (vector_table v l j) None) (local_index v.map i)
 
   rows-are : (v : VectorState S) (n : ℕ) → AreDistinct v.map → n ≤ length v.map → (i j : ℕ) → table_of R (rows_of v n) i j ≡ first_rows v n i j
@@ -105,7 +112,7 @@ module _ {S : Type 0} {R : Semiring S} (L : IsSemiring R) where
     where
       go : (o : Option ℕ) → (let none : Option S = None in none ≡ option_and_then (λ l. cond (ltb l 0) (vector_table v l j) None) o)
       go None = refl
-      go (Some l) = refl
+      go (Some l) = ap (λ b. cond b (vector_table v l j) None) (sym (le-ltb l 0 (omega arith)))
   rows-are v (suc n) distinct low i j =
       ap (λ m. table_of R (rows_of v m) i j) next
       ∙ ap (λ cs. table_of R cs i j) (count-push (λ l. row_of v l (get_or v.map l 0) v.columns) n)
@@ -162,7 +169,7 @@ module _ {S : Type 0} {R : Semiring S} (L : IsSemiring R) where
               ]
                 where
                   past : n ≤ l → (l ≡ n → ⊥) → suc n ≤ l
-                  past h a = elim (cases_lt n l) [ | inl x ↦ omega arith | inr y ↦ absurd (a (omega arith)) ]
+                  past h a = elim (cases_lt n l) [ inl x ↦ omega arith | inr y ↦ absurd (a (omega arith)) ]
 
   -- all rows
   pub all-rows : (v : VectorState S) → AreDistinct v.map → table_of R (rows_of v (length v.map)) ≡ global_table v

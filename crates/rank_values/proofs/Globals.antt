@@ -1,5 +1,5 @@
 -- Vectors by global indices.
-use Rattle.std.proofs.Common.{◌≡◌, ℕ, ◌+◌, ◌*◌, ◌<◌, ◌≤◌, Bool, true, false, ◌&&◌, cond, ltb, eqb, nat_lt, List, length, get_or, replicate, Option, None, Some, inl, inr, refl, sym, ap, ◌∙◌, arith}
+use Rattle.std.proofs.Common.{◌≡◌, ℕ, ◌+◌, ◌*◌, ◌<◌, ◌≤◌, Bool, true, false, ◌&&◌, cond, ltb, eqb, nat_lt, List, [], length, get_or, replicate, Result, Ok, Err, IfOk, Option, None, Some, inl, inr, refl, sym, ap, ◌∙◌, arith}
 use Rattle.std.specs.Prelude.{slice_get, is_some}
 use Rattle.std.specs.Option.{option_and_then, option_map, unwrap_or}
 use Rattle.std.proofs.lemmas.Bool.{cases_Bool, eqb-true, eq-eqb, ltb-true, lt-ltb}
@@ -21,7 +21,8 @@ use Rattle.std.proofs.lemmas.List.Quantifiers.{position-Some}
 use Rattle.model_defs.specs.Operations.{combination, scaled}
 use Rattle.multivector.specs.Vectors.{VectorState, vector_table, has_cell, combination as local_combination}
 use Rattle.multivector.proofs.Cells.{has-cell}
-use Rattle.rank_values.specs.Vectors.{global_table}
+use Rattle.scalar_laws.specs.Conversions.{Conversions}
+use Rattle.rank_values.specs.Vectors.{global_table, lines_on}
 
 -- what has a local index stands in the list
 pub some_stands : (xs : List ℕ) (g l : ℕ) → local_index xs g ≡ Some l → stands g xs ≡ true
@@ -83,13 +84,13 @@ module _ {S : Type 0} where
                     let place : lid ≡ l = same_Some lid l (sym there ∙ ap (local_index v.map) one ∙ e) in
                     eq-eqb lid l place ∙ sym on
                 | inr off ↦ elim (cases_Bool (eqb lid l)) [
-                    | inl on ↦
-                        let place : lid ≡ l = eqb-true lid l on in
-                        let one : g ≡ i = same_index v.map g i l (there ∙ ap (λ k. Some k) place) e in
-                        let bad : eqb g i ≡ true = eq-eqb g i one in
-                        absurd (cc)
-                    | inr no ↦ no ∙ sym off
-                  ]
+                  | inl on ↦
+                      let place : lid ≡ l = eqb-true lid l on in
+                      let one : g ≡ i = same_index v.map g i l (there ∙ ap (λ k. Some k) place) e in
+                      let bad : eqb g i ≡ true = eq-eqb g i one in
+                      absurd (cc)
+                  | inr apart ↦ apart ∙ sym off
+                ]
               ]
 
   -- a vector that has one number in each cell
@@ -121,6 +122,11 @@ module _ {S : Type 0} where
           global-at whole i j l e ∙ cell l (slice_get_within list l i (global_index-from list i l e)) (ltb j columns) refl
           ∙ sym (ap (λ b. cond (b && ltb j columns) (Some x) None) (some_stands list i l e))
 
+-- with nought in each cell it is the table of no lines
+pub global-nought : {S : Type 0} (R : Semiring S) (F : Conversions S) (list : List ℕ) (columns : ℕ) (zero : S) → zero ≡ R.nought
+    → global_table (record { map = list; columns = columns; values = replicate (length list * columns) zero }) ≡ lines_on R F list columns []
+global-nought R F list columns zero none = λ t i j. (global-filled list columns zero i j ∙ ap (λ x. cond (stands i list && ltb j columns) (Some x) None) none) t
+
 module _ {S : Type 0} {R : Semiring S} (L : IsSemiring R) where
   -- sums cell by cell are those by global index
   pub global-combined : (alpha beta : S) (x y v : VectorState S) → x.map ≡ y.map → v.map ≡ y.map
@@ -147,3 +153,8 @@ module _ {S : Type 0} {R : Semiring S} (L : IsSemiring R) where
       at : (o : Option S) → both_or_one R.plus (option_map (R.times alpha) o) (option_map (R.times R.nought) o) ≡ option_map (R.times alpha) o
       at None = refl
       at (Some a) = ap (λ x. Some x) (ap (R.plus (R.times alpha a)) (L.times_nought a) ∙ L.plus_comm (R.times alpha a) R.nought ∙ L.plus_nought (R.times alpha a))
+
+  pub scaled-clause : {E : Type 0} (alpha zero : S) (x : VectorState S) (r : Result (VectorState S) E) → zero ≡ R.nought
+      → IfOk r (λ v. global_table v ≡ combination R alpha (global_table x) zero (global_table x)) → IfOk r (λ v. global_table v ≡ scaled R alpha (global_table x))
+  scaled-clause alpha zero x (Ok v) none e = e ∙ ap (λ z. combination R alpha (global_table x) z (global_table x)) none ∙ combination-nought alpha (global_table x)
+  scaled-clause alpha zero x (Err f) none e = tt

@@ -1,3 +1,5 @@
 pub mod Globals
 pub mod LineTables
 pub mod CellLists
+pub mod Blocks
+pub mod Overs

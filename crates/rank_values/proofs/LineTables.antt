@@ -61,17 +61,17 @@ module _ {S : Type 0} (R : Semiring S) where
 
 module _ {S : Type 0} (R : Semiring S) (F : Conversions S) where
   -- the table of one line more
-  pub lines-push : (lines : List Line) (l : Line)
+  pub lines-push : IsSemiring R → (lines : List Line) (l : Line)
       → lines_table R F (lines ++ l ∷ []) ≡ with_place (lines_table R F lines) l.row l.col (both_or_one R.plus (lines_table R F lines l.row l.col) (Some (number_of R F l.value)))
-  lines-push lines l =
+  lines-push L lines l =
       ap (table_of R) (flat_map-append (entry_numbers R F Plain) lines (l ∷ []))
-      ∙ table_of-push (flat_map (entry_numbers R F Plain) lines) (number_cell R F (own_cell l))
+      ∙ table_of-push L (flat_map (entry_numbers R F Plain) lines) (number_cell R F (own_cell l))
 
   -- a line that names no cell
-  pub line-outside : (list : List ℕ) (columns : ℕ) (lines : List Line) (l : Line) → (stands l.row list && ltb l.col columns) ≡ false
+  pub line-outside : IsSemiring R → (list : List ℕ) (columns : ℕ) (lines : List Line) (l : Line) → (stands l.row list && ltb l.col columns) ≡ false
       → lines_on R F list columns (lines ++ l ∷ []) ≡ lines_on R F list columns lines
-  line-outside list columns lines l off =
-      ap (completed R (λ i. stands i list) columns) (lines-push lines l)
+  line-outside L list columns lines l off =
+      ap (completed R (λ i. stands i list) columns) (lines-push L lines l)
       ∙ completed-outside R (λ i. stands i list) columns (lines_table R F lines) l.row l.col (both_or_one R.plus (lines_table R F lines l.row l.col) (Some (number_of R F l.value))) off
 
   grown : (o : Option S) (n : S) → IsSemiring R → unwrap_or (both_or_one R.plus o (Some n)) R.nought ≡ R.plus (unwrap_or o R.nought) n
@@ -91,6 +91,6 @@ module _ {S : Type 0} (R : Semiring S) (F : Conversions S) where
       let was : old ≡ unwrap_or (t l.row l.col) R.nought = same_Some old (unwrap_or (t l.row l.col) R.nought) (sym (global-at v l.row l.col lid there ∙ cell) ∙ ap (λ u. u l.row l.col) is ∙ here) in
       global-set v w l.row lid l.col (R.plus old n) there same set
       ∙ (λ k. with_place (is k) l.row l.col (Some (R.plus (was k) n)))
-      ∙ sym (ap (completed R (λ i. stands i v.map) v.columns) (lines-push lines l)
+      ∙ sym (ap (completed R (λ i. stands i v.map) v.columns) (lines-push L lines l)
       ∙ completed-inside R (λ i. stands i v.map) v.columns t l.row l.col (both_or_one R.plus (t l.row l.col) (Some n)) on
       ∙ ap (λ x. with_place (completed R (λ i. stands i v.map) v.columns t) l.row l.col (Some x)) (grown (t l.row l.col) n L))

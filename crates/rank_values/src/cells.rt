@@ -31,10 +31,7 @@ fn add_row<S: Scalar>(
 }
 
 /// Cells put in order by row, then column, those of one place added. `Err` means that memory ran out.
-fn in_order<S: Scalar>(
-    alloc: Global,
-    cells: Vec<Cell<S>>,
-) -> Result<Vec<Cell<S>>, AllocError>
+fn in_order<S: Scalar>(alloc: Global, cells: Vec<Cell<S>>) -> Result<Vec<Cell<S>>, AllocError>
     ensures in_order { IfOk result (λ sorted. AreInOrder sorted.items) }
     ensures cells { IfOk result (λ sorted. found sorted.items ≡ table_of S.semiring cells.items) }
 {

@@ -22,21 +22,21 @@ pub fn number_of<S: Scalar>(value: i128) -> S
 }
 
 /// Adds the number of a line to the cell that it names, if the vector has that cell.
-fn add_line<S: Scalar>(vector: &mut MultiVector<S>, line: Line)
+fn add_line<S: Scalar>(vector: &mut MultiVector<S>, line: &Line)
     ensures same_map { vector.new.map ≡ vector.old.map }
     ensures same_columns { vector.new.columns ≡ vector.old.columns }
     ensures cells { (lines : List Line) → global_table vector.old ≡ lines_on S.semiring S.conversions vector.old.map vector.old.columns lines
-        → global_table vector.new ≡ lines_on S.semiring S.conversions vector.old.map vector.old.columns (lines ++ line ∷ []) }
+        → global_table vector.new ≡ lines_on S.semiring S.conversions vector.old.map vector.old.columns (lines ++ line.now ∷ []) }
 {
-    if line.col >= vector.columns() as u64 {
+    let Line { row, col, value } = *line;
+    if col >= vector.columns() as u64 {
         return;
     }
-    let Some(lid) = vector.map().local_of(line.row) else {
+    let Some(lid) = vector.map().local_of(row) else {
         return;
     };
-    let col = line.col as u32;
-    let sum = vector.cell(lid, col).add(number_of(line.value));
-    vector.set(lid, col, sum);
+    let sum = vector.cell(lid, col as u32).add(number_of(value));
+    vector.set(lid, col as u32, sum);
 }
 
 /// The vector on a map that has in each cell the sum of the lines that name it, or zero. The row of a line is a global
@@ -53,7 +53,7 @@ pub fn vector_of_lines<S: Scalar>(
 {
     let mut vector = MultiVector::new(alloc, map, columns, S::zero())?;
     for line in lines {
-        add_line(&mut vector, *line);
+        add_line(&mut vector, line);
     }
     Ok(vector)
 }

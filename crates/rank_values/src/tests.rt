@@ -15,7 +15,13 @@ fn line(row: u64, col: u64, value: i128) -> Line {
 /// The vector on the list 7, 2 with the cells (2, 0) 5 and (7, 0) 1 + 3. The index 4 is not on the list.
 fn sample(alloc: Global) -> Result<MultiVector<Weighed>, Fail> {
     let map = LocalMap::from_list(alloc, &[7, 2])?;
-    let lines = [line(2, 0, 5), line(7, 0, 1), line(4, 0, 9), line(7, 0, 3), line(7, 1, 8)];
+    let lines = [
+        line(2, 0, 5),
+        line(7, 0, 1),
+        line(4, 0, 9),
+        line(7, 0, 3),
+        line(7, 1, 8),
+    ];
     Ok(vector_of_lines(alloc, map, 1, &lines)?)
 }
 
