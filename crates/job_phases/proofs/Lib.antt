@@ -1,2 +1,3 @@
 pub mod JobNames
 pub mod ByPhase
+pub mod LocalJobs

@@ -1,5 +1,5 @@
 -- The laws of the phases of a job.
-use Rattle.std.specs.Prelude.{◌≡◌, ◌<◌, ℕ, Bool, List, filter, length, map}
+use Rattle.std.specs.Prelude.{◌≡◌, ◌<◌, ℕ, Bool, List, [], filter, length, map}
 use Rattle.std.specs.List.{slice_index_or}
 use Rattle.scalar_laws.specs.Semiring.{Semiring}
 use Rattle.scalar_laws.specs.Conversions.{Conversions}
@@ -11,6 +11,7 @@ use Rattle.model_defs.specs.declared.job.Job.{Job}
 use Rattle.model_defs.specs.declared.phase.Phase.{Phase}
 use Rattle.model_defs.specs.Phases.{phases}
 use Rattle.model_defs.specs.Letters.{is_posted, letter_entries, letter_names}
+use Rattle.model_defs.specs.Local.{IsLocalJob}
 use Rattle.model_defs.specs.Machine.{job_protocol, no_phase}
 
 -- whether a letter of a phase is posted: one of numbers without entries is not
@@ -39,3 +40,7 @@ abbrev pub OthersAreAwaited : Type 0
 OthersAreAwaited =
     (job : Job) (files : List File) (n p : ℕ) → n < length (phases job) → p < job.ranks
     → names_to (letter_names job files) n p ≡ filter (is_sent job files (phase_at job n)) (from_others job.ranks n p)
+
+-- A job without matrices whose statements go cell by cell, or print, has no phases.
+abbrev pub LocalJobsHaveNoPhases : Type 0
+LocalJobsHaveNoPhases = (job : Job) → IsLocalJob job → phases job ≡ []

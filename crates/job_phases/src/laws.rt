@@ -1,5 +1,5 @@
 //! The laws of a job's phases. Each function has an empty body: what it proves is its contract.
-ghost use Rattle.job_phases.specs.Laws.{JobsGoByPhase, NamesAreByPhase, OthersArePosted, OthersAreAwaited};
+ghost use Rattle.job_phases.specs.Laws.{JobsGoByPhase, LocalJobsHaveNoPhases, NamesAreByPhase, OthersArePosted, OthersAreAwaited};
 
 use scalar_laws::Scalar;
 
@@ -15,4 +15,9 @@ pub fn others_are_posted_and_awaited()
     ensures names { NamesAreByPhase }
     ensures posts { OthersArePosted }
     ensures awaits { OthersAreAwaited }
+{}
+
+/// A job without matrices whose statements go cell by cell, or print, has no phases.
+pub fn local_jobs_have_no_phases()
+    ensures { LocalJobsHaveNoPhases }
 {}
