@@ -1,1 +1,2 @@
 pub mod LocalJobs
+pub mod OwnValues

@@ -23,7 +23,7 @@ module _ {S : Type 0} (R : Semiring S) (F : Conversions S) (job : Job) (files : 
 
   -- its pieces of the first values
   pub record AreOwnValues (count : ℕ) (values : List (VectorState S)) : Type 0 where
-    pub count : length values ≡ count
+    pub many : length values ≡ count
     pub each : (v : ℕ) (vector : VectorState S) → slice_get values v ≡ Some vector → IsOwnValue v vector
 
 -- The worker is that of this rank of a job, and has all its pieces once it entered the end.
