@@ -1,0 +1,17 @@
+pub mod Outcomes
+pub mod KeyFacts
+pub mod ListFacts
+pub mod MapFacts
+pub mod Seen
+pub mod GivenFacts
+pub mod StatementFacts
+pub mod StepFacts
+pub mod LocalSteps
+pub mod Traces
+pub mod Absent
+pub mod Reading
+pub mod KnownMaps
+pub mod MakersRead
+pub mod KnownValues
+pub mod KnownNames
+pub mod ReadJobs

@@ -1,0 +1,75 @@
+-- Each job that is read is valid, and with the words that are built by now it needs no letters.
+use Rattle.std.proofs.Common.{◌≡◌, List, [], ◌∷◌, length, refl, arith}
+use Rattle.std.specs.List.{All}
+use Rattle.std.proofs.lemmas.List.Elements.{All-nil, All-cons}
+use Rattle.model_defs.specs.declared.job.Job.{Job}
+use Rattle.model_defs.specs.declared.job.Step.{Step}
+use Rattle.model_defs.specs.Maps.{no_map}
+use Rattle.model_defs.specs.Limits.{IsWithinLimits, IsSmallForm, HasFewCells}
+use Rattle.model_defs.specs.Local.{IsLocalJob, IsLocalStep}
+use Rattle.model_defs.specs.Valid.{IsValid}
+use Rattle.job_text.specs.declared.words.Unbuilt.{Unbuilt}
+use Rattle.job_text.specs.declared.words.TheConstants.{TODAY}
+use Rattle.job_text.specs.Known.{Known, no_names, with_step}
+use Rattle.job_text.specs.Whole.{job_by, job_of}
+use Rattle.job_validity.specs.Laws.{ReadJobsAreValid, ReadJobsAreLocal}
+use Rattle.job_validity.proofs.Outcomes.{answer}
+use Rattle.job_validity.proofs.MapFacts.{IsGoodSpec}
+use Rattle.job_validity.proofs.Seen.{IsVectorFor, IsPartsFor}
+use Rattle.job_validity.proofs.KnownMaps.{good-specs, mapped-first, mapped-after, all-mapped}
+use Rattle.job_validity.proofs.KnownNames.{job-named}
+use Rattle.job_validity.proofs.KnownValues.{makers-valid, steps-printable}
+use Rattle.job_validity.proofs.Traces.{AreFor, IsReadStep}
+use Rattle.job_validity.proofs.Reading.{IsReadJob, after_maps, after_vectors, after_matrices, job-read}
+use Rattle.model_defs.specs.Makers.{GivenVector, GivenParts, Made}
+use Rattle.model_defs.specs.declared.job.Step.TheVariants as step
+
+-- what holds of all elements holds of all, where it follows
+all-follow : {A : Type 0} (P Q : A → Type 0) (xs : List A) → ((x : A) → P x → Q x) → All P xs → All Q xs
+all-follow P Q xs each h = λ k d l. each _ (h k d l)
+
+module _ (u : Unbuilt) (job : Job) (h : IsReadJob u job) where
+  good : All (IsGoodSpec job.ranks) job.maps
+  good = good-specs job.maps (no_names job.ranks) h.tables.maps
+
+  limits : IsWithinLimits job
+  limits = record {
+    ranks = h.ranks;
+    maps = h.maps;
+    given = h.given;
+    steps = h.steps;
+    forms = all-follow (IsGoodSpec job.ranks) (λ m. IsSmallForm m.size m.form) job.maps (λ m g. g.small) good;
+    vectors = all-mapped job GivenVector IsVectorFor (λ v. HasFewCells job v.map v.columns) (λ k v mapped f. f.few job mapped) job.vectors (after_maps job) (mapped-first job) h.tables.vectors;
+    parts = all-mapped job GivenParts IsPartsFor (λ v. HasFewCells job v.map v.columns) (λ k v mapped f. f.few job mapped) job.parts (after_vectors job)
+        (mapped-after job GivenVector job.vectors (after_maps job) (mapped-first job)) h.tables.parts;
+  }
+
+  pub read-valid : IsValid job
+  read-valid = record {
+    some = h.some;
+    limits = limits;
+    named = job-named u job h.tables;
+    forms = λ m l. (good m no_map l).form;
+    layouts = λ m l. (good m no_map l).layout h.some;
+    values = λ k l. makers-valid job u h.tables k (Made (step.Print 0)) l;
+    prints = steps-printable job u h.tables;
+  }
+
+-- ---- without letters
+
+local-steps : (u : Unbuilt) (steps : List Step) (known : Known) → u ≡ TODAY → AreFor with_step (IsReadStep u) known steps → All IsLocalStep steps
+local-steps u [] known e h = All-nil IsLocalStep
+local-steps u (s ∷ ss) known e h = All-cons IsLocalStep s ss (h.0.local e) (local-steps u ss (with_step known s) e h.1)
+
+none-left : {A : Type 0} (xs : List A) → length xs ≡ 0 → xs ≡ []
+none-left [] e = refl
+none-left (x ∷ xs) e = absurd (omega arith)
+
+read-local : (job : Job) → IsReadJob TODAY job → IsLocalJob job
+read-local job h = record { matrices = none-left job.matrices (h.local refl); steps = local-steps TODAY job.steps (after_matrices job) refl h.tables.steps }
+
+pub read-jobs-are-valid : ReadJobsAreValid
+read-jobs-are-valid = λ u text job e. read-valid u job (answer (IsReadJob u) (job_by u text) job (job-read u text) e)
+
+pub read-jobs-are-local : ReadJobsAreLocal
+read-jobs-are-local = λ text job e. read-local job (answer (IsReadJob TODAY) (job_of text) job (job-read TODAY text) e)

@@ -1,0 +1,8 @@
+//! The laws of the jobs that are read. Each function has an empty body: what it proves is its contract.
+ghost use Rattle.job_validity.specs.Laws.{ReadJobsAreLocal, ReadJobsAreValid};
+
+/// Whatever words are built, a job that a text gives is valid. With the words that are built by now it needs no letters.
+pub fn read_jobs_are_valid()
+    ensures valid { ReadJobsAreValid }
+    ensures local { ReadJobsAreLocal }
+{}
