@@ -59,11 +59,11 @@ or-default [] d here h k = here
 or-default (m ∷ ms) d here h zero = h 0 m (omega arith)
 or-default (m ∷ ms) d here h (suc k) = or-default ms d here (λ j e l. h (suc j) e (omega arith)) k
 
-local-maker : (job : Job) → IsLocalJob job → (k : ℕ) → IsLocalMaker (maker_of job k)
+pub local-maker : (job : Job) → IsLocalJob job → (k : ℕ) → IsLocalMaker (maker_of job k)
 local-maker job h k = or-default (makers job) (Made (step.Print 0)) tt (all-makers job h) k
 
 -- no transfer
-no-transfers : (job : Job) (k : ℕ) (m : Maker) → IsLocalMaker m → transfers_by job k m ≡ []
+pub no-transfers : (job : Job) (k : ℕ) (m : Maker) → IsLocalMaker m → transfers_by job k m ≡ []
 no-transfers job k (GivenVector spec) h = refl
 no-transfers job k (GivenParts spec) h = refl
 no-transfers job k (GivenMatrix spec) h = absurd h

@@ -1,2 +1,4 @@
 pub mod LocalJobs
 pub mod OwnValues
+pub mod Clauses
+pub mod Finished

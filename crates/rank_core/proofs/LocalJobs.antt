@@ -1,6 +1,5 @@
 -- Jobs without letters: a rank's pieces depend on no letter, and there is no phase.
-use Rattle.std.proofs.Common.{◌≡◌, ℕ, zero, suc, ◌<◌, ◌≤◌, ◌⊎◌, inl, inr, Bool, true, false, cond, eqb, List, [], ◌∷◌, ◌++◌, map, filter, length, get_or, refl, sym, ap, ◌∙◌, subst, arith}
-use Rattle.std.specs.Prelude.{All}
+use Rattle.std.proofs.Common.{◌≡◌, ℕ, zero, suc, ◌<◌, ◌≤◌, ◌⊎◌, inl, inr, Bool, true, false, cond, eqb, List, [], ◌∷◌, ◌++◌, length, refl, sym, ap, ◌∙◌, arith}
 use Rattle.std.proofs.lemmas.Bool.{eqb-true}
 use Rattle.scalar_laws.specs.Semiring.{Semiring}
 use Rattle.scalar_laws.specs.Conversions.{Conversions}
@@ -20,72 +19,15 @@ use Rattle.model_defs.specs.Transfers.{transfers, transfers_by}
 use Rattle.model_defs.specs.Turns.{Each, in_turn}
 use Rattle.model_defs.proofs.Turns.{in_turn-first, in_turn-next}
 use Rattle.peers.specs.Protocols.{Letter}
-
--- what makes a value of such a job
-abbrev pub IsLocalMaker : Maker → Type 0
-IsLocalMaker (GivenVector spec) = Unit {0}
-IsLocalMaker (GivenParts spec) = Unit {0}
-IsLocalMaker (GivenMatrix spec) = ⊥
-IsLocalMaker (Made step) = IsLocalStep step
-
-all-map : {A B : Type 0} (P : B → Type 0) (f : A → B) (xs : List A) → ((x : A) → P (f x)) → All P (map f xs)
-all-map P f [] each = tt
-all-map P f (x ∷ xs) each = (each x, all-map P f xs each)
-
-local-steps : (xs : List Step) → All IsLocalStep xs → All IsLocalMaker (map Made (filter gives_value xs))
-local-steps [] all = tt
-local-steps (x ∷ xs) all = go (gives_value x) (local-steps xs all.1)
-  where
-    go : (b : Bool) → All IsLocalMaker (map Made (filter gives_value xs)) → All IsLocalMaker (map Made (cond b (x ∷ filter gives_value xs) (filter gives_value xs)))
-    go true rest = (all.0, rest)
-    go false rest = rest
-
-all-append : {A : Type 0} (P : A → Type 0) (xs ys : List A) → All P xs → All P ys → All P (xs ++ ys)
-all-append P [] ys a b = b
-all-append P (x ∷ xs) ys a b = (a.0, all-append P xs ys a.1 b)
-
-all-get : {A : Type 0} (P : A → Type 0) (xs : List A) (k : ℕ) (d : A) → All P xs → P d → P (get_or xs k d)
-all-get P [] k d a b = b
-all-get P (x ∷ xs) zero d a b = a.0
-all-get P (x ∷ xs) (suc k) d a b = all-get P xs k d a.1 b
+use Rattle.job_phases.proofs.LocalJobs.{local-maker, no-transfers}
 
 module _ (job : Job) (local : IsLocalJob job) where
-  local-makers : All IsLocalMaker (makers job)
-  local-makers =
-      let vectors = all-map IsLocalMaker GivenVector job.vectors (λ spec. tt) in
-      let parts = all-map IsLocalMaker GivenParts job.parts (λ spec. tt) in
-      let matrices : All IsLocalMaker (map GivenMatrix job.matrices) = subst (λ ms. All IsLocalMaker (map GivenMatrix ms)) (sym local.matrices) tt in
-      all-append IsLocalMaker ((map GivenVector job.vectors ++ map GivenParts job.parts) ++ map GivenMatrix job.matrices) (map Made (filter gives_value job.steps))
-      (all-append IsLocalMaker (map GivenVector job.vectors ++ map GivenParts job.parts) (map GivenMatrix job.matrices)
-      (all-append IsLocalMaker (map GivenVector job.vectors) (map GivenParts job.parts) vectors parts) matrices)
-      (local-steps job.steps local.steps)
-
-  pub local-maker : (k : ℕ) → IsLocalMaker (maker_of job k)
-  local-maker k = all-get IsLocalMaker (makers job) k (Made (step.Print 0)) local-makers tt
-
-  none-by : (k : ℕ) (m : Maker) → IsLocalMaker m → transfers_by job k m ≡ []
-  none-by k (GivenVector spec) l = refl
-  none-by k (GivenParts spec) l = refl
-  none-by k (GivenMatrix spec) l = absurd (l)
-  none-by k (Made (step.Move name source m)) l = absurd (l)
-  none-by k (Made (step.Import name source onto mode)) l = absurd (l)
-  none-by k (Made (step.Export name source onto mode)) l = absurd (l)
-  none-by k (Made (step.Spread name source m)) l = absurd (l)
-  none-by k (Made (step.Update name x y alpha beta)) l = refl
-  none-by k (Made (step.Scale name value alpha)) l = refl
-  none-by k (Made (step.Apply name a x y alpha beta transposed)) l = absurd (l)
-  none-by k (Made (step.Transpose name a)) l = absurd (l)
-  none-by k (Made (step.Multiply name a b)) l = absurd (l)
-  none-by k (Made (step.Add name a b alpha beta)) l = absurd (l)
-  none-by k (Made (step.Assemble name source onto mode)) l = absurd (l)
-  none-by k (Made (step.Print value)) l = refl
-
-  pub no-transfers : (k : ℕ) → transfers job k ≡ []
-  no-transfers k = none-by k (maker_of job k) (local-maker k)
+  pub none-by-transfers : (k : ℕ) → transfers job k ≡ []
+  none-by-transfers k = no-transfers job k (maker_of job k) (local-maker job local k)
 
   module _ {S : Type 0} (R : Semiring S) (F : Conversions S) (files : List File) (p : ℕ) where
     nothing-gathered : (a : Arrivals R F job files) (k : ℕ) (mine : Each (Table S)) → gathered_after R F job files p a k mine (stage_count job k) ≡ nowhere
-    nothing-gathered a k mine = ap (gathered_after R F job files p a k mine) (ap length (no-transfers k))
+    nothing-gathered a k mine = ap (gathered_after R F job files p a k mine) (ap length (none-by-transfers k))
 
     made-alike : (a b : Arrivals R F job files) (k : ℕ) (mine : Each (Table S)) → make_piece R F job files p a k mine ≡ make_piece R F job files p b k mine
     made-alike a b k mine = ap (made_piece R F job files p k mine) (nothing-gathered a k mine ∙ sym (nothing-gathered b k mine))

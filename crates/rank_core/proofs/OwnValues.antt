@@ -24,9 +24,11 @@ use Rattle.model_defs.specs.Makers.{Maker, GivenVector, GivenParts, GivenMatrix,
 use Rattle.model_defs.specs.Maps.{list_of}
 use Rattle.model_defs.specs.Operations.{combination, scaled}
 use Rattle.model_defs.specs.Pieces.{piece_of}
-use Rattle.model_defs.specs.Shapes.{shape, shape_by, Vector, Parts, dense_shape}
+use Rattle.model_defs.specs.declared.shape.Sort.TheVariants.{Vector, Parts}
+use Rattle.model_defs.specs.Shapes.{shape, shape_by, dense_shape}
 use Rattle.model_defs.specs.Stages.{first_pieces, made_by, made_piece, last_way}
-use Rattle.model_defs.specs.Transfers.{Way, transfers}
+use Rattle.model_defs.specs.declared.phase.Way.{Way}
+use Rattle.model_defs.specs.Transfers.{transfers}
 use Rattle.model_defs.specs.Turns.{Each}
 use Rattle.model_defs.specs.Valid.{IsValid, IsValidMaker, IsValidStep}
 use Rattle.model_defs.proofs.KnownShapes.{shape-of-made}
@@ -71,7 +73,7 @@ module _ (job : Job) (valid : IsValid job) where
   cases : (k : ℕ) → k < cell_count job → Cases k
   cases k l = elim (cases_lt k (length job.vectors)) [
     | inl m ↦ inl m
-    | inr m ↦ inr (k - length job.vectors, (omega arith, omega arith))
+    | inr m ↦ inr (k - length job.vectors, omega arith, omega arith)
   ]
 
   pub rows-known : (k : ℕ) → k < cell_count job → (shape job k).rows < length job.maps
@@ -84,7 +86,7 @@ module _ (job : Job) (valid : IsValid job) where
       go (inl m) =
           let ok = subst (IsValidMaker job k) (maker-vector job k no_vector m) (valid.values k known) in
           subst (λ r. r < length job.maps) (sym (ap (λ s. s.rows) (vector-shape k no_vector m))) ok.0.0
-      go (inr (m, (same, low))) =
+      go (inr (m, same, low)) =
           let ok = subst (IsValidMaker job k) (ap (maker_of job) same ∙ maker-parts job m no_parts low) (valid.values k known) in
           subst (λ r. r < length job.maps) (sym (ap (λ s. s.rows) (ap (shape job) same ∙ parts-shape m no_parts low))) ok.0
 
@@ -101,7 +103,7 @@ module _ {S : Type 0} (R : Semiring S) (F : Conversions S) (job : Job) (files : 
     where
       go : Cases job input.valid k → IsGiven k (maker_of job k)
       go (inl m) = subst (IsGiven k) (sym (maker-vector job k no_vector m)) (λ way mine got. refl)
-      go (inr (m, (same, low))) = subst (IsGiven k) (sym (ap (maker_of job) same ∙ maker-parts job m no_parts low)) (λ way mine got. refl)
+      go (inr (m, same, low)) = subst (IsGiven k) (sym (ap (maker_of job) same ∙ maker-parts job m no_parts low)) (λ way mine got. refl)
 
   pub given-own : (k : ℕ) (v : VectorState S) → k < cell_count job → v.map ≡ list_of job (shape job k).rows me → v.columns ≡ (shape job k).columns
       → global_table v ≡ lines_on R F (list_of job (shape job k).rows me) (shape job k).columns (get_or share.cells k []) → IsOwnValue R F job files me k v
@@ -138,7 +140,7 @@ module _ {S : Type 0} (R : Semiring S) (F : Conversions S) (job : Job) (files : 
           let many = own.many in
           let end : k ≡ length values = omega arith in
           let here : k ≡ n = omega arith in
-          let one : v ≡ w = sym (get_or_push values v w) ∙ ap (λ m. get_or (values ++ v ∷ []) m w) (sym end) ∙ get_or_from_slice_get (values ++ v ∷ []) k w w at in
+          let one : v ≡ w = sym (get_or_push values v w k (sym end)) ∙ get_or_from_slice_get (values ++ v ∷ []) k w w at in
           subst (λ m. IsOwnValue R F job files me m w) (sym here) (subst (IsOwnValue R F job files me n) one new)
 
   -- ---- statements
@@ -169,11 +171,14 @@ module _ {S : Type 0} (R : Semiring S) (F : Conversions S) (job : Job) (files : 
     pub can-make : (s : Step) → maker_of job n ≡ Made s → IsLocalStep s → CanMake values s
     can-make (step.Update name x y alpha beta) maker local =
         let ok = valid-step (step.Update name x y alpha beta) maker in
-        let many = own.many in
-        (omega (arith, ok.0), omega (arith, ok.1), λ a b at_x at_y.
-        let left = own.each x a at_x in
-        let right = own.each y b at_y in
-        (left.map ∙ ap (λ m. list_of job m me) ok.4 ∙ sym right.map, left.columns ∙ ok.5 ∙ sym right.columns))
+        let many = own.many in (
+          omega (arith, ok.0),
+          omega (arith, ok.1),
+          λ a b at_x at_y.
+              let left = own.each x a at_x in
+              let right = own.each y b at_y in
+              (left.map ∙ ap (λ m. list_of job m me) ok.4 ∙ sym right.map, left.columns ∙ ok.5 ∙ sym right.columns),
+        )
     can-make (step.Scale name value alpha) maker local = let low = valid-step (step.Scale name value alpha) maker in let many = own.many in omega (arith, low)
     can-make (step.Print value) maker local = tt
     can-make (step.Move name source m) maker local = absurd (local)
@@ -253,20 +258,20 @@ module _ (job : Job) (none : job.matrices ≡ []) where
       → get_or (filter gives_value xs) (length (filter gives_value (take at xs))) d ≡ get_or xs at d
   passed-at [] at d l e = absurd (omega arith)
   passed-at (x ∷ xs) zero d l e = ap (λ b. get_or (cond b (x ∷ filter gives_value xs) (filter gives_value xs)) 0 d) e
-  passed-at (x ∷ xs) (suc at) d l e = go (gives_value x)
+  passed-at (x ∷ xs) (suc at) d l e = go (gives_value x) (passed-at xs at d (omega arith) e)
     where
-      go : (b : Bool) → get_or (cond b (x ∷ filter gives_value xs) (filter gives_value xs)) (length (cond b (x ∷ filter gives_value (take at xs)) (filter gives_value (take at xs)))) d ≡ get_or xs at d
-      go true = passed-at xs at d (omega arith) e
-      go false = passed-at xs at d (omega arith) e
+      go : (b : Bool) → get_or (filter gives_value xs) (length (filter gives_value (take at xs))) d ≡ get_or xs at d → get_or (cond b (x ∷ filter gives_value xs) (filter gives_value xs)) (length (cond b (x ∷ filter gives_value (take at xs)) (filter gives_value (take at xs)))) d ≡ get_or xs at d
+      go true rest = rest
+      go false rest = rest
 
   passed-below : (xs : List Step) (at : ℕ) (d : Step) → at < length xs → gives_value (get_or xs at d) ≡ true → length (filter gives_value (take at xs)) < length (filter gives_value xs)
   passed-below [] at d l e = absurd (omega arith)
   passed-below (x ∷ xs) zero d l e = subst (λ b. 0 < length (cond b (x ∷ filter gives_value xs) (filter gives_value xs))) (sym e) (omega arith)
-  passed-below (x ∷ xs) (suc at) d l e = go (gives_value x)
+  passed-below (x ∷ xs) (suc at) d l e = go (gives_value x) (passed-below xs at d (omega arith) e)
     where
-      go : (b : Bool) → length (cond b (x ∷ filter gives_value (take at xs)) (filter gives_value (take at xs))) < length (cond b (x ∷ filter gives_value xs) (filter gives_value xs))
-      go true = let rest = passed-below xs at d (omega arith) e in omega arith
-      go false = passed-below xs at d (omega arith) e
+      go : (b : Bool) → length (filter gives_value (take at xs)) < length (filter gives_value xs) → length (cond b (x ∷ filter gives_value (take at xs)) (filter gives_value (take at xs))) < length (cond b (x ∷ filter gives_value xs) (filter gives_value xs))
+      go true rest = omega arith
+      go false rest = rest
 
   pub step-known : (at : ℕ) (d : Step) → at < length job.steps → gives_value (get_or job.steps at d) ≡ true → made_before job at < value_count job
   step-known at d l e =
@@ -321,3 +326,29 @@ gives-none R F values (step.Transpose name a) made = absurd (made)
 gives-none R F values (step.Multiply name a b) made = absurd (made)
 gives-none R F values (step.Add name a b alpha beta) made = absurd (made)
 gives-none R F values (step.Assemble name source onto mode) made = absurd (made)
+
+-- the operands of the statement at this place are there
+pub can-make-at : {S : Type 0} (R : Semiring S) (F : Conversions S) (job : Job) (files : List File) (me : ℕ) (own : Share) → IsRankInput F job files me own
+    → (at : ℕ) (d : Step) (values : List (VectorState S)) → at < length job.steps → AreOwnValues R F job files me (made_before job at) values
+    → IsLocalStep (get_or job.steps at d) → CanMake values (get_or job.steps at d)
+can-make-at R F job files me own input at d values l made local = go (gives_value (get_or job.steps at d)) refl
+  where
+    go : (b : Bool) → gives_value (get_or job.steps at d) ≡ b → CanMake values (get_or job.steps at d)
+    go true e =
+        can-make R F job files me own input (made_before job at) values made (step-known job input.local.matrices at d l e) (get_or job.steps at d)
+        (maker-step job input.local.matrices at d l e) local
+    go false e = prints (get_or job.steps at d) e
+      where
+        prints : (s : Step) → gives_value s ≡ false → CanMake values s
+        prints (step.Print value) f = tt
+        prints (step.Update name x y alpha beta) f = absurd (cc)
+        prints (step.Scale name value alpha) f = absurd (cc)
+        prints (step.Move name source m) f = tt
+        prints (step.Import name source onto mode) f = tt
+        prints (step.Export name source onto mode) f = tt
+        prints (step.Spread name source m) f = tt
+        prints (step.Apply name a x y alpha beta transposed) f = tt
+        prints (step.Transpose name a) f = tt
+        prints (step.Multiply name a b) f = tt
+        prints (step.Add name a b alpha beta) f = tt
+        prints (step.Assemble name source onto mode) f = tt

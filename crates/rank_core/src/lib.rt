@@ -20,8 +20,6 @@
 
 mod making;
 mod rank;
-#[cfg(test)]
-mod tests;
 mod worker;
 
 pub use rank::Rank;

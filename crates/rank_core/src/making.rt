@@ -1,6 +1,7 @@
 //! The pieces that a rank makes of the values of a job, one after the other.
 ghost use Rattle.std.specs.Prelude.{◌≡◌, ◌<◌, [], List, OnOk, IfOk, length};
 ghost use Rattle.mm_text.specs.Reading.{File};
+ghost use Rattle.model_defs.specs.FileMatrix.{number_of};
 ghost use Rattle.model_defs.specs.Local.{IsLocalStep};
 ghost use Rattle.model_defs.specs.Makers.{value_count};
 ghost use Rattle.model_defs.specs.Shapes.{shape};
@@ -74,6 +75,13 @@ fn add_parts<S: Scalar>(
     Ok(())
 }
 
+/// The number of a factor.
+fn factor<S: Scalar>(value: i64) -> S
+    ensures number { result ≡ number_of S.semiring S.conversions value }
+{
+    number_of(value as i128)
+}
+
 /// The piece of the value that a statement makes of those before it. None where the statement gives no value.
 fn step_piece<S: Scalar>(
     values: &[MultiVector<S>],
@@ -85,18 +93,22 @@ fn step_piece<S: Scalar>(
 {
     match step {
         Step::Update {
-            x, y, alpha, beta, ..
+            x,
+            y,
+            alpha,
+            beta,
+            ..
         } => {
             let sum = sum_of_vectors(
-                number_of(*alpha as i128),
+                factor(*alpha),
                 &values[*x as usize],
-                number_of(*beta as i128),
+                factor(*beta),
                 &values[*y as usize],
             )?;
             Ok(Some(sum))
         }
         Step::Scale { value, alpha, .. } => {
-            let scaled = scaled_vector(number_of(*alpha as i128), &values[*value as usize])?;
+            let scaled = scaled_vector(factor(*alpha), &values[*value as usize])?;
             Ok(Some(scaled))
         }
         Step::Print { .. } => Ok(None),

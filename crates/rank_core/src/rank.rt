@@ -28,12 +28,7 @@ pub struct Rank<S> {
 impl<S: Scalar + Drop> Rank<S> {
     /// The rank `me` of a valid job, counted from 0, which was given nothing yet. `share` is its share of files that fit the
     /// job, as `share_of` gives it. By now the job is one without letters. `Err` means that memory ran out.
-    pub fn start(
-        alloc: Global,
-        me: u32,
-        job: &Rc<Job>,
-        share: Share,
-    ) -> Result<Rank<S>, AllocError>
+    pub fn start(alloc: Global, me: u32, job: &Rc<Job>, share: Share) -> Result<Rank<S>, AllocError>
         requires input { (files : List File) × IsRankInput S.conversions job.now.value files me share }
         ensures fresh { IfOk result (λ rank. (files : List File) → IsRankInput S.conversions job.now.value files me share
             → IsRank S.semiring S.conversions rank (fresh (job_protocol S.semiring S.conversions job.now.value files) me)) }
@@ -69,11 +64,12 @@ impl<S: Scalar + Drop> Rank<S> {
         ensures some { result ≡ true → (s : PeerState) → IsRank S.semiring S.conversions self.now s → IsFinished s
             → (v : ℕ) × ((i : ℕ) × ((j : ℕ) × (is_over_there S.conversions (result_table S.conversions s v i j) ≡ true))) }
     {
-        self.phased
-            .worker()
-            .values()
-            .iter()
-            .any(|vector| is_vector_over(vector))
+        for vector in self.phased.worker().values() {
+            if is_vector_over(vector) {
+                return true;
+            }
+        }
+        false
     }
 
     /// The phase that a rank which has worked is in: the first of which it awaits a letter, or the number of phases.
@@ -103,22 +99,22 @@ impl<S: Scalar + Drop> Peer for Rank<S> {
     ghost stands = { λ r s. IsRank S.semiring S.conversions r s };
 
     fn work(&mut self) -> Result<(), AllocError> {
-        self.phased.work()
+        Peer::work(&mut self.phased)
     }
 
     fn on_letter(&mut self, name: Name, bytes: &[u8]) -> Result<bool, AllocError> {
-        self.phased.on_letter(name, bytes)
+        Peer::on_letter(&mut self.phased, name, bytes)
     }
 
     fn first_post(&self) -> Option<Name> {
-        self.phased.first_post()
+        Peer::first_post(&self.phased)
     }
 
     fn post_bytes(&self) -> &[u8] {
-        self.phased.post_bytes()
+        Peer::post_bytes(&self.phased)
     }
 
     fn sent(&mut self) {
-        self.phased.sent()
+        Peer::sent(&mut self.phased)
     }
 }

@@ -1,5 +1,9 @@
 //! What a rank of a job does in its phases.
-ghost use Rattle.std.specs.Prelude.{◌≡◌};
+ghost use Rattle.std.specs.Prelude.{◌≡◌, List};
+ghost use Rattle.mm_text.specs.Reading.{File};
+ghost use Rattle.model_defs.specs.Machine.{job_protocol};
+ghost use Rattle.rank_phases.specs.Stages.{beginning};
+ghost use Rattle.rank_core.specs.Inputs.{IsRankInput};
 
 use crate::making::own_values;
 use byte_pool::{Lease, Pool};
@@ -23,8 +27,13 @@ pub struct JobWorker<S> {
 }
 
 impl<S: Scalar> JobWorker<S> {
+    ghost use Rattle.rank_core.specs.Workers.{IsJobWorker};
+
     /// A worker that entered no phase.
-    pub(crate) fn new(alloc: Global, me: u32, job: Rc<Job>, share: Share) -> JobWorker<S> {
+    pub(crate) fn new(alloc: Global, me: u32, job: Rc<Job>, share: Share) -> JobWorker<S>
+        ensures stands { (files : List File) → IsRankInput S.conversions job.value files me share
+            → IsJobWorker S.semiring S.conversions result (beginning (job_protocol S.semiring S.conversions job.value files) 0 me) }
+    {
         JobWorker {
             alloc,
             me,
