@@ -3,3 +3,4 @@ pub mod Maps
 pub mod Positions
 pub mod Compared
 pub mod Fitted
+mod Examples

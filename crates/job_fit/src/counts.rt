@@ -28,7 +28,7 @@ pub(crate) fn size_of(job: &Job, map: u32) -> u64
 }
 
 /// How many of so many indices rank `me` has, where no rank has two more than another one.
-fn even_count(ranks: u32, size: u64, me: u32) -> u64
+pub(crate) fn even_count(ranks: u32, size: u64, me: u32) -> u64
     requires { 0 < ranks }
     ensures { result ≡ uniform_count ranks size me }
 {

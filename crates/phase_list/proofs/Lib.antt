@@ -1,0 +1,4 @@
+pub mod Shaped
+pub mod Walking
+pub mod Placed
+pub mod Bounded

@@ -1,0 +1,3 @@
+pub mod ByShapes
+pub mod Seen
+pub mod Walks
