@@ -1,5 +1,5 @@
 //! The cells of ranks, put in order.
-ghost use Rattle.std.specs.Prelude.{◌≡◌, ◌++◌, true, List, All, map, IfOk, IfSome, OnOk};
+ghost use Rattle.std.specs.Prelude.{◌≡◌, ◌++◌, true, List, All, Some, map, IfOk, IfSome, OnOk};
 ghost use Rattle.std.specs.List.{list_all};
 ghost use Rattle.gathered_rows.specs.Blocks.{cells_in};
 ghost use Rattle.tables.specs.Tables.{AreInOrder, found, table_of, stands_before};
@@ -96,13 +96,20 @@ fn all_after<S: Scalar>(last: Option<Cell<S>>, cells: &[Cell<S>]) -> bool
     }
 }
 
+/// The cell itself.
+fn some<S: Scalar>(cell: Cell<S>) -> Option<Cell<S>>
+    ensures { result ≡ Some cell }
+{
+    Some(cell)
+}
+
 /// The last of the cells, or `last` where there is none.
 fn last_of<S: Scalar>(last: Option<Cell<S>>, cells: &[Cell<S>]) -> Option<Cell<S>>
     requires in_order { AreInOrder cells.now }
     ensures last { (before : List (Cell S)) → IsLast before last → AreInOrder (before ++ cells.now) → IsLast (before ++ cells.now) result }
 {
     match cells.last() {
-        Some(cell) => Some(*cell),
+        Some(cell) => some(*cell),
         None => last,
     }
 }

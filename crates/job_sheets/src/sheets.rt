@@ -7,7 +7,6 @@ ghost use Rattle.model_defs.specs.Makers.{value_count};
 ghost use Rattle.model_defs.specs.Maps.{layout_of};
 ghost use Rattle.model_defs.specs.Plans.{width_of};
 ghost use Rattle.model_defs.specs.Sheets.{array_sheet, coordinate_sheet, sheets_by};
-ghost use Rattle.model_defs.specs.Shapes.{Vector};
 ghost use Rattle.model_defs.specs.Valid.{IsValid};
 ghost use Rattle.job_sheets.specs.Cells.{sum_of_pieces};
 ghost use Rattle.job_sheets.specs.Values.{sheets_of_pieces, table_at};
@@ -123,7 +122,7 @@ fn vector_sheet<S: Scalar>(
     requires valid { IsValid job.now }
     requires one_to_one { IsOneToOne (layout_of job.now shape.rows) }
     requires in_order { All (λ piece. AreInOrder piece.items) pieces.now }
-    ensures sheet { IfOk result (λ sheet. sheet ∷ [] ≡ sheets_by S.conversions job.now Vector shape (λ p. sum_of_pieces S.semiring pieces.now)) }
+    ensures sheet { IfOk result (λ sheet. sheet ∷ [] ≡ sheets_by S.conversions job.now Sort.Vector shape (λ p. sum_of_pieces S.semiring pieces.now)) }
 {
     if is_total(job, shape.rows) {
         return array_sheet(alloc, job, shape, pieces);

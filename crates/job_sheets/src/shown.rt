@@ -1,9 +1,9 @@
 //! The cells of a table as they are printed.
-ghost use Rattle.std.specs.Prelude.{◌≡◌, ◌++◌, All, map, IfOk, OnOk};
+ghost use Rattle.std.specs.Prelude.{◌≡◌, ◌++◌, ◌∷◌, [], true, false, All, filter, map, IfOk, OnOk};
 ghost use Rattle.gathered_rows.specs.Blocks.{cells_in};
 ghost use Rattle.model_defs.specs.ShowText.{shown_cell};
 ghost use Rattle.tables.specs.Tables.{AreInOrder, cells_of, found};
-ghost use Rattle.job_sheets.specs.Cells.{listed, shown_within, sum_of_pieces};
+ghost use Rattle.job_sheets.specs.Cells.{is_within, listed, shown_within, sum_of_pieces};
 
 use crate::cells::{are_consecutive, merged, placed};
 use model_defs::{Cell, Shown};
@@ -21,6 +21,21 @@ fn shown_cell<S: Scalar>(cell: Cell<S>) -> Shown
     }
 }
 
+/// Puts a cell at the end, where it is in the first rows and columns. `Err` means that memory ran out.
+fn add_cell<S: Scalar>(
+    shown: &mut Vec<Shown>,
+    rows: u64,
+    cols: u64,
+    cell: Cell<S>,
+) -> Result<(), AllocError>
+    ensures shown { OnOk result (shown.new.items ≡ shown.old.items ++ map (shown_cell S.conversions) (filter (is_within rows cols) (cell ∷ []))) }
+{
+    if cell.row < rows && cell.col < cols {
+        shown.push(shown_cell(cell))?;
+    }
+    Ok(())
+}
+
 /// Puts the cells of the first rows and columns at the end. `is_turned` says that row and column of the given cells were exchanged.
 /// `Err` means that memory ran out.
 fn add_shown<S: Scalar>(
@@ -34,10 +49,7 @@ fn add_shown<S: Scalar>(
 {
     shown.reserve(cells.len())?;
     for cell in cells {
-        let cell = placed(is_turned, *cell);
-        if cell.row < rows && cell.col < cols {
-            shown.push(shown_cell(cell))?;
-        }
+        add_cell(shown, rows, cols, placed(is_turned, *cell))?;
     }
     Ok(())
 }

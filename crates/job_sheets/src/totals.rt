@@ -1,5 +1,5 @@
 //! Whether a map has each index below its size.
-ghost use Rattle.std.specs.Prelude.{◌≡◌, length};
+ghost use Rattle.std.specs.Prelude.{◌≡◌, ◌==◌, length};
 ghost use Rattle.std.specs.List.{concat};
 ghost use Rattle.map_core.specs.Layouts.{IsOneToOne};
 ghost use Rattle.model_defs.specs.Maps.{layout_of, size_of};
@@ -8,7 +8,7 @@ ghost use Rattle.model_defs.specs.Valid.{IsValid};
 
 use model_defs::{Job, ListOf, MapForm};
 
-/// How many indices the lists have together, where that is this number; else another number than this.
+/// Whether the lists have this many indices together.
 fn has_count(lists: &[ListOf<u64>], size: u64) -> bool
     ensures { result ≡ (length (concat lists.now) == size) }
 {
