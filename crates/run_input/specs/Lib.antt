@@ -1,0 +1,6 @@
+pub mod Orders
+pub mod Walk
+pub mod Sources
+pub mod Answering
+pub mod Reading
+pub mod Texts
