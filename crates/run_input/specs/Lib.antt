@@ -4,3 +4,5 @@ pub mod Sources
 pub mod Answering
 pub mod Reading
 pub mod Texts
+pub mod Faults
+pub mod Names

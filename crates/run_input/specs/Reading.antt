@@ -19,6 +19,12 @@ IsUnread (Err Memory) = ⊥
 IsUnread (Err (Unread name)) = Unit {0}
 IsUnread (Err (Refused name fault)) = ⊥
 
+-- memory ran out, or the file of this name could not be read
+abbrev pub IsUnreadOf : List ℕ → InputFault → Type 0
+IsUnreadOf file Memory = Unit {0}
+IsUnreadOf file (Unread name) = name_text name ≡ file
+IsUnreadOf file (Refused name fault) = ⊥
+
 -- the count rose of the file that the answer names as unread
 abbrev pub RoseAt : {T : Type 0} → (List ℕ → ℕ) → (List ℕ → ℕ) → Result T InputFault → Type 0
 RoseAt before after (Ok x) = Unit {0}

@@ -26,9 +26,14 @@ pub enum InputFault<'a> {
     /// Memory ran out.
     Memory,
     /// The file of this name could not be read.
-    Unread { name: FileName<'a> },
+    Unread {
+        name: FileName<'a>,
+    },
     /// The text of the file of this name is refused.
-    Refused { name: FileName<'a>, fault: TextFault },
+    Refused {
+        name: FileName<'a>,
+        fault: TextFault,
+    },
 }
 
 impl<'a> From<AllocError> for InputFault<'a> {

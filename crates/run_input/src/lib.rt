@@ -22,8 +22,6 @@ mod given;
 mod name;
 mod names;
 mod sizes;
-#[cfg(test)]
-mod tests;
 mod texts;
 
 pub use fault::{InputFault, TextFault};
