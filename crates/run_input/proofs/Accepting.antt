@@ -1,13 +1,10 @@
 -- The texts of a job and of a schedule, of which the front was read: whether they are accepted, and what stops at them.
-use Rattle.std.proofs.Common.{◌≡◌, ◌+◌, ◌<◌, ℕ, List, [], ◌∷◌, take, length, Option, None, Some, Result, Ok, Err, codes, sym, ap, ◌∙◌}
-use Rattle.std.specs.Prelude.{Vec}
-use Rattle.std.specs.Global.{Global}
+use Rattle.std.proofs.Common.{◌≡◌, ◌+◌, ◌<◌, ℕ, List, [], ◌∷◌, take, length, Option, Some, Result, Ok, Err, codes, sym, ap, ◌∙◌}
 use Rattle.outside.specs.Reads.{HasText, Source}
 use Rattle.outside.proofs.Sources.{HasText-map}
 use Rattle.model_defs.specs.declared.job.Job.{Job}
 use Rattle.job_text.specs.declared.fault.JobFault.TheVariants.{Limit}
 use Rattle.job_text.specs.Whole.{job_of}
-use Rattle.schedule.specs.declared.fault.ScheduleFault.{ScheduleFault}
 use Rattle.schedule.specs.declared.fault.ScheduleFault.TheVariants.{TooLong}
 use Rattle.schedule.specs.declared.order.Entry.{Entry}
 use Rattle.schedule.specs.Texts.{schedule_of}

@@ -1,5 +1,5 @@
 -- Members of lists.
-use Rattle.std.proofs.Common.{◌≡◌, ◌+◌, ◌<◌, ℕ, zero, suc, List, [], ◌∷◌, ◌++◌, length, get_or, sym, ◌∙◌, arith, length-append}
+use Rattle.std.proofs.Common.{◌+◌, zero, suc, List, [], ◌∷◌, ◌++◌, length, sym, ◌∙◌, arith, length-append}
 use Rattle.std.specs.List.{IsAmong}
 use Rattle.std.proofs.lemmas.List.{get_or_append_left, get_or-append-add}
 

@@ -1,5 +1,5 @@
 -- The names of a job's files, and the faults that name one of them.
-use Rattle.std.proofs.Common.{◌≡◌, ◌⊎◌, ℕ, zero, suc, List, [], ◌∷◌, ◌++◌, map, filter, Option, None, Some, Result, Ok, Err, refl, sym, ap, ◌∙◌, subst, inl, inr, arith}
+use Rattle.std.proofs.Common.{◌≡◌, ◌⊎◌, ℕ, zero, suc, List, [], ◌∷◌, ◌++◌, map, Option, None, Some, Result, Ok, Err, refl, sym, ap, ◌∙◌, subst, inl, inr, arith}
 use Rattle.std.specs.List.{IsAmong, flat_map}
 use Rattle.std.proofs.lemmas.List.{map-append}
 use Rattle.outside.specs.Reads.{Source}
@@ -17,7 +17,7 @@ use Rattle.job_files.specs.declared.fault.FilesFault.{FilesFault}
 use Rattle.job_files.specs.declared.fault.FilesFault.TheVariants.{Memory, Unread, Refused}
 use Rattle.job_files.specs.declared.wanted.FileKind.{FileKind}
 use Rattle.job_files.specs.declared.wanted.FileKind.TheVariants.{Array}
-use Rattle.job_files.specs.Steps.{GivesFiles, GivesWithin}
+use Rattle.job_files.specs.Steps.{GivesFiles}
 use Rattle.job_files.specs.Walk.{Stop, ◌>>=◌, file_read, files_within, most_entries, names_behind, names_within, no_file, or_refused, refused, room_behind, text_read}
 use Rattle.job_files.specs.Wanted.{Wanted, profile_for, vector_kind, wanted, wanted_as, wanted_by}
 use Rattle.job_files.proofs.Wanting.{wanted-in_order}

@@ -1,5 +1,5 @@
 -- What several reads did to the files.
-use Rattle.std.proofs.Common.{◌≡◌, ◌≤◌, ℕ, List, [], Option, Result, Ok, Err, ◌∙◌, subst, sym, arith}
+use Rattle.std.proofs.Common.{◌≡◌, ℕ, List, [], Option, Result, Ok, Err, ◌∙◌, subst, arith}
 use Rattle.outside.specs.Faults.{Rose}
 use Rattle.outside.specs.Reads.{Source}
 use Rattle.run_input.specs.declared.fault.InputFault.{InputFault}

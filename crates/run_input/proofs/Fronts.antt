@@ -3,15 +3,11 @@ use Rattle.std.proofs.Common.{◌≡◌, ◌+◌, ◌<◌, ℕ, suc, cond, true,
 use Rattle.std.proofs.lemmas.Bool.{cases_lt}
 use Rattle.std.proofs.lemmas.Bool.Decides.{nat_tests}
 use Rattle.std.proofs.lemmas.List.{length-take-le, take_all}
-use Rattle.model_defs.specs.declared.job.Job.{Job}
-use Rattle.job_text.specs.declared.fault.JobFault.{JobFault}
 use Rattle.job_text.specs.declared.fault.JobFault.TheVariants.{Limit}
 use Rattle.job_text.specs.declared.words.TheConstants.{TODAY}
 use Rattle.job_text.specs.Outcomes.{◌>>=◌}
 use Rattle.job_text.specs.Whole.{document_of, job_in, job_of}
-use Rattle.schedule.specs.declared.fault.ScheduleFault.{ScheduleFault}
 use Rattle.schedule.specs.declared.fault.ScheduleFault.TheVariants.{TooLong}
-use Rattle.schedule.specs.declared.order.Entry.{Entry}
 use Rattle.schedule.specs.Texts.{entries_of, mark, schedule_of}
 use Rattle.text_lines.specs.Lines.{kept_from, lines_of}
 

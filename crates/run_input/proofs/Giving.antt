@@ -1,11 +1,13 @@
 -- What is given, by the texts and the files that were read.
-use Rattle.std.proofs.Common.{◌≡◌, ℕ, List, [], ◌∷◌, Option, Some, Result, Ok, Err, refl, sym, ap, ◌∙◌, subst}
+use Rattle.std.proofs.Common.{◌≡◌, ℕ, List, [], ◌∷◌, Option, Result, Ok, Err, sym, ap, ◌∙◌, subst}
 use Rattle.std.specs.Prelude.{Vec}
 use Rattle.std.specs.Global.{Global}
 use Rattle.outside.specs.Reads.{Source}
 use Rattle.mm_text.specs.declared.file_data.FileData.{FileData}
 use Rattle.mm_text.specs.Reading.{File}
 use Rattle.model_defs.specs.declared.job.Job.{Job}
+use Rattle.model_defs.specs.Fitting.{IsFitting}
+use Rattle.model_defs.specs.Local.{IsLocalJob}
 use Rattle.job_text.specs.Whole.{job_of}
 use Rattle.job_files.specs.Walk.{file_names_read}
 use Rattle.run_words.specs.Given.{DeliveryOrder}
@@ -18,7 +20,7 @@ use Rattle.run_input.specs.Sources.{SomeSource}
 use Rattle.run_input.specs.Texts.{AreRead, GivesText, GivesTexts}
 use Rattle.run_input.specs.Walk.{Stop, fitting_files_at, input_of, job_at, order_at, reads_for, schedule_names}
 use Rattle.run_input.proofs.Stopping.{some-weaker}
-use Rattle.run_input.proofs.Walking.{all-given, files-stop, job-read, job-stops, order-stops}
+use Rattle.run_input.proofs.Walking.{all-given, files-fit, files-stop, job-local, job-read, job-stops, order-stops}
 
 -- the job of a text that was read
 pub job-of-text : (source : Source) (name : List ℕ) (job : Job) (read : ReadText) → read.name.now ≡ name → job_of read.bytes.items ≡ Ok job → GivesText source read
@@ -61,3 +63,12 @@ module _ (told mid : Option Source) (name : List ℕ) (asked : DeliveryOrder) (t
       subst (λ (t : Option Source). SomeSource t (λ source. input_of source name asked ≡ Ok (record { job = texts.job; files = found_files found; order = order_given texts.order }))) same
       (some-weaker mid _ _ (λ source h.
       all-given source name asked texts.job (read.job source h.0) (order_given texts.order) (read.order source h.0) (found_files found) (sym (files-named source) ∙ h.1)) some)
+
+  -- what is given can be run
+  module _ (found : Vec FileData Global)
+      (some : SomeSource mid (λ source. GivesTexts source texts × Answers found_files (file_names_read texts.job source) (fitting_files_at source texts.job_text.name.now texts.job) (Ok found))) where
+    pub read-local : IsLocalJob texts.job
+    read-local = job-local some.source name texts.job (read.job some.source some.passes.0)
+
+    pub read-fits : IsFitting texts.job (found_files found)
+    read-fits = files-fit some.source texts.job_text.name.now texts.job (found_files found) some.passes.1

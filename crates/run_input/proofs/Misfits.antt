@@ -1,5 +1,5 @@
 -- The first value of which a file has other sizes than the job states.
-use Rattle.std.proofs.Common.{◌≡◌, ◌<◌, ◌≤◌, ◌+◌, ℕ, Bool, true, false, not, cond, zero, suc, List, [], ◌∷◌, ◌++◌, ◌-◌, length, get_or, map, filter, length-append, Option, None, Some, refl, sym, ap, ◌∙◌, inl, inr, arith}
+use Rattle.std.proofs.Common.{◌≡◌, ◌<◌, ◌≤◌, ◌+◌, ℕ, Bool, true, false, not, cond, zero, suc, List, [], ◌∷◌, ◌++◌, ◌-◌, length, get_or, map, filter, length-append, Some, refl, sym, ap, ◌∙◌, inl, inr, arith}
 use Rattle.std.specs.List.{list_all, find}
 use Rattle.std.proofs.lemmas.Bool.{cases_lt}
 use Rattle.std.proofs.lemmas.List.{length-map, get_or-append-add}
@@ -10,7 +10,7 @@ use Rattle.model_defs.specs.Fitting.{expected_file, first_unfit, has_sizes, is_s
 use Rattle.model_defs.specs.declared.job.Step.{Step}
 use Rattle.model_defs.specs.declared.job.Step.TheVariants as step
 use Rattle.model_defs.specs.Given.{file_count, value_file}
-use Rattle.model_defs.specs.Makers.{Maker, GivenVector, GivenParts, GivenMatrix, Made, gives_value, maker_of, makers, value_count}
+use Rattle.model_defs.specs.Makers.{Maker, GivenVector, GivenParts, GivenMatrix, Made, gives_value, maker_of, value_count}
 
 passes_at : (p : ℕ → Bool) (x : ℕ) (xs : List ℕ) (k : ℕ) (b : Bool) → p x ≡ b → (find p xs ≡ Some k → p k ≡ true) → cond b (Some x) (find p xs) ≡ Some k → p k ≡ true
 passes_at p x xs k true is later e = let same : x ≡ k = cc in ap p (sym same) ∙ is

@@ -1,5 +1,5 @@
 use Rattle.run_input.proofs.Copies.{fault-among}
-use Rattle.run_input.proofs.Holding.{held-found, held-memory, held-stops, reads-found, reads-stop}
+use Rattle.run_input.proofs.Holding.{held-memory}
 use Rattle.run_input.proofs.found.read_beside.Goals as goal
 
 pub returns-in-Err-clause-gives : goal.returns-in-Err-clause-gives
