@@ -83,7 +83,7 @@ rows-back w k before f (a ∷ more) e h = λ t. first t ∷ (shift ∙ rows-back
         ≡ map (λ i. take w (drop (i * w) ((before ++ f a) ++ flat_map f more))) (count_from (k + 1) (length more))
     shift = ap (λ z. map (λ i. take w (drop (i * w) z)) (count_from (k + 1) (length more))) (sym (append_assoc before (f a) (flat_map f more)))
 
-below-count : (n k m : ℕ) → k + m ≤ n → AreBelow n (count_from k m)
+pub below-count : (n k m : ℕ) → k + m ≤ n → AreBelow n (count_from k m)
 below-count n k zero l = tt
 below-count n k (suc m) l = (omega (arith, l), below-count n (k + 1) m (omega (arith, l)))
 

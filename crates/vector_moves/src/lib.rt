@@ -22,6 +22,7 @@
 #![tactic(auto)]
 
 mod fault;
+pub mod laws;
 mod moving;
 mod rounds;
 #[cfg(test)]

@@ -1,5 +1,5 @@
 //! Transfers between two ranks, and a thousand of them on one pool.
-ghost use Rattle.std.specs.Prelude.{◌≡◌, ◌∷◌, [], Some, IfOk};
+ghost use Rattle.std.specs.Prelude.{◌≡◌, ◌<◌, ◌^◌, ◌∷◌, [], Some, length, IfOk};
 
 use crate::{MoveFault, absorb, local, pack, ready, transfer_often};
 use byte_pool::Pool;
@@ -17,6 +17,7 @@ fn number(value: i128) -> Weighed {
 
 /// A vector of one column on the indices of a list, with these numbers.
 fn vector(alloc: Global, list: &[u64], values: &[i128]) -> Result<MultiVector<Weighed>, Fail>
+    requires few { length list.now < 2 ^ 32 }
     ensures map { IfOk result (λ v. v.map ≡ list.now) }
     ensures columns { IfOk result (λ v. v.columns ≡ 1) }
 {
