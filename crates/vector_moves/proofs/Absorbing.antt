@@ -24,10 +24,11 @@ use Rattle.distributor.specs.Arrivals.{numbers_in, arrived_moves, HasEntries, Is
 use Rattle.distributor.proofs.Numbered.{length-count_from, length-numbered}
 use Rattle.distributor.proofs.Absorbed.{of-numbers}
 use Rattle.multivector.specs.Vectors.{VectorState, IsVector, HasSameShape, has_cell, vector_table, vector_entries}
-use Rattle.vector_moves.specs.Rows.{by_index, rows_of, row_numbers, vector_letter}
+use Rattle.vector_moves.specs.Rows.{by_index, rows_of, row_numbers, vector_letter, letter_vector}
 use Rattle.vector_moves.specs.Moves.{AreMoves, IsRowsLetter}
 use Rattle.vector_moves.proofs.Came.{HaveLength, rows_cells, rows-length, rows-taken, moved-rows, moved-table}
 use Rattle.vector_moves.proofs.Sent.{length-numbers}
+use Rattle.vector_moves.proofs.Positions.{below-count, count-list, all-indices, distinct-indices}
 
 -- letters with equal bytes have equally many words and the same numbers
 pub same-numbers : (a b : Kind) (v w m n : List ℕ) → length v < 2 ^ 64 → length w < 2 ^ 64 → letter_bytes a v m ≡ letter_bytes b w n → (length v ≡ length w) × (m ≡ n)
@@ -48,20 +49,12 @@ same-numbers a b v w m n few some e = (counts, numbers)
         ∙ behind w n (length v) counts
 
 module _ {S : Type 0} (F : Conversions S) where
-  from : (f : ℕ → S) (k : ℕ) (ns : List S) → ((i : ℕ) (d : S) → i < length ns → f (k + i) ≡ get_or ns i d) → map f (count_from k (length ns)) ≡ ns
-  from f k [] h = refl
-  from f k (v ∷ vs) h =
-      let here : k ≡ k + 0 = omega arith in
-      let first : f k ≡ v = ap f here ∙ h 0 v (omega arith) in
-      let rest = from f (k + 1) vs (λ i d l. let next : k + 1 + i ≡ k + suc i = omega arith in ap f next ∙ h (suc i) d (omega (arith, l))) in
-      λ t. first t ∷ rest t
-
   -- the numbers in bytes that were written
   pub numbers-back : AreConversions F → (ns : List S) → numbers_in F (number_bytes F ns) ≡ ns
   numbers-back laws ns =
       let count : length (number_bytes F ns) / 32 ≡ length ns = omega (arith, length-number_bytes F laws ns) in
       ap (λ k. map (number_at F (number_bytes F ns)) (count_from 0 k)) count
-      ∙ from (number_at F (number_bytes F ns)) 0 ns (λ i d l. let same : 0 + i ≡ i = omega arith in ap (number_at F (number_bytes F ns)) same ∙ read-back F laws ns i d l)
+      ∙ count-list (number_at F (number_bytes F ns)) 0 ns (λ i d l. let same : 0 + i ≡ i = omega arith in ap (number_at F (number_bytes F ns)) same ∙ read-back F laws ns i d l)
 
   pub length-numbers_in : (bytes : List ℕ) → length (numbers_in F bytes) ≡ length bytes / 32
   length-numbers_in bytes = length-map (count_from 0 (length bytes / 32)) (number_at F bytes) ∙ length-count_from 0 (length bytes / 32)
@@ -82,10 +75,6 @@ rows-back w k before f (a ∷ more) e h = λ t. first t ∷ (shift ∙ rows-back
     shift : map (λ i. take w (drop (i * w) (before ++ (f a ++ flat_map f more)))) (count_from (k + 1) (length more))
         ≡ map (λ i. take w (drop (i * w) ((before ++ f a) ++ flat_map f more))) (count_from (k + 1) (length more))
     shift = ap (λ z. map (λ i. take w (drop (i * w) z)) (count_from (k + 1) (length more))) (sym (append_assoc before (f a) (flat_map f more)))
-
-pub below-count : (n k m : ℕ) → k + m ≤ n → AreBelow n (count_from k m)
-below-count n k zero l = tt
-below-count n k (suc m) l = (omega (arith, l), below-count n (k + 1) m (omega (arith, l)))
 
 module _ {S : Type 0} (F : Conversions S) (letter : Letter) (columns : ℕ) (kind : IsOfKind (Some columns) letter) where
   -- the rows of the letter, as a vector
@@ -148,6 +137,35 @@ module _ {S : Type 0} (F : Conversions S) (laws : AreConversions F) (R : Semirin
       (letter-cells F letter y.columns kind tos (rows.0 ∙ many)
       ∙ ap (λ n. rows_cells (map (row_numbers (as_vector F letter y.columns kind)) (count_from 0 n)) tos) (sym many)
       ∙ ap (λ rs. rows_cells rs tos) (letter-rows F letter y.columns kind laws x froms is moves.sources columns rows.1)))
+
+  -- whatever its rows are: row k comes for position k
+  pub absorbed-letter : (new : VectorState S) (tos : List ℕ) → AreDistinct y.map → new.map ≡ y.map → AreBelow (length y.map) tos
+      → ((entries : List (Entry S)) → HasEntries F width letter entries → length entries ≡ length tos)
+      → ((entries : List (Entry S)) → HasEntries F width letter entries → vector_table new ≡ with_cells R mode true (vector_table y) (moved_cells entries (arrived_moves tos)))
+      → (words numbers : List ℕ) → IsLetter Nums words numbers → bytes ≡ letter_bytes Nums words numbers → AreDistinct tos
+      → by_index new ≡ gathered R mode true (by_index y) (rows_of (letter_vector F y tos numbers) (indices_at y.map tos) ∷ [])
+  absorbed-letter new tos dy same below counts cells words numbers is e once =
+      moved-table R mode rows y new (count_from 0 (length tos)) tos (distinct-indices y.map tos dy below once) dy
+      (below-count (length (indices_at y.map tos)) 0 (length tos) (omega (arith, many))) below all once same
+      (of-numbers F letter (λ entries. vector_table new ≡ with_cells R mode true (vector_table y) (moved_cells entries (arrived_moves tos))) width y.columns for_y cells
+      ∙ ap (with_cells R mode true (vector_table y)) (letter-cells F letter y.columns kind tos count))
+      ∙ ap (λ gids. gathered R mode true (by_index y) (rows_of rows gids ∷ [])) all
+      ∙ ap (λ ns. gathered R mode true (by_index y) (rows_of (letter_vector F y tos ns) (indices_at y.map tos) ∷ []))
+      (same-numbers letter.kind Nums (words_of letter.words.now) words letter.numbers.now numbers parts.0.few is.few (sym whole ∙ e)).1
+    where
+      rows : VectorState S
+      rows = letter_vector F y tos letter.numbers.now
+
+      many : length (indices_at y.map tos) ≡ length tos
+      many = length-map tos (index_at y.map)
+
+      all : indices_at (indices_at y.map tos) (count_from 0 (length tos)) ≡ indices_at y.map tos
+      all = ap (λ n. indices_at (indices_at y.map tos) (count_from 0 n)) (sym many) ∙ all-indices (indices_at y.map tos)
+
+      count : length (words_of letter.words.now) ≡ length tos
+      count =
+          sym (length-numbered y.columns (words_of letter.words.now) (numbers_in F letter.numbers.now))
+          ∙ of-numbers F letter (λ entries. length entries ≡ length tos) width y.columns for_y counts
 
 -- the letter of rows of a vector is a letter, where their indices have 64 bits
 pub is-letter : {S : Type 0} (F : Conversions S) → AreConversions F → (x : VectorState S) (froms : List ℕ) → IsVector x → AreBelow (length x.map) froms

@@ -1,3 +1,4 @@
+pub mod Positions
 pub mod Came
 pub mod Sent
 pub mod Absorbing

@@ -2,19 +2,18 @@
 use Rattle.std.proofs.Common.{◌≡◌, ℕ, zero, suc, ◌+◌, ◌<◌, ◌≤◌, Bool, true, false, cond, ◌&&◌, ◌||◌, eqb, nat_le, List, [], ◌∷◌, ◌++◌, map, Option, Some, None, refl, sym, ap, subst, ◌∙◌, arith, length, get_or}
 use Rattle.std.specs.List.{filter, range_with_len}
 use Rattle.std.specs.Option.{unwrap_or}
-use Rattle.std.proofs.lemmas.Bool.{ne_eqb, eq-eqb, eqb-true, eqb-false}
+use Rattle.std.proofs.lemmas.Bool.{ne_eqb, eq-eqb, eqb-true}
 use Rattle.std.proofs.lemmas.Bool.Decides.{nat_tests}
 use Rattle.tables.specs.Indices.{stands, AreDistinct, AreBelow, count_from}
 use Rattle.map_core.specs.Classes.{index_at, indices_at, places, place, same_count, permuted, is_permuted, is_lacked, lacked, lacked_of_each, lacked_positions, first_lacked}
 use Rattle.map_core.specs.Plans.{export_list, remote_list}
 use Rattle.map_core.proofs.Accepted.{AreBelow-filter, permuted-places, placed, none_lacked, places-lacked, each_at}
 use Rattle.map_core.proofs.Classes.{same_count-same, same_count-le}
-use Rattle.map_core.proofs.Places.{first_place}
 use Rattle.map_core.proofs.Members.{and_true, stands-filter, AreDistinct-filter, AreDistinct-append}
 use Rattle.import_plan.specs.Imports.{Import, import_lists, want_of, wanted_from}
 use Rattle.export_plan.specs.Exports.{Export, export_lists, offer_of, offered_to}
 use Rattle.vector_moves.specs.Moves.{AreMoves, own_sources, own_targets}
-use Rattle.vector_moves.proofs.Absorbing.{below-count}
+use Rattle.vector_moves.proofs.Positions.{below-count, distinct-indices}
 
 -- ---- runs of numbers
 
@@ -159,22 +158,6 @@ distinct-positions xs (f ∷ fs) h = (by (stands f fs) refl, distinct-positions 
     by : (b : Bool) → stands f fs ≡ b → stands f fs ≡ false
     by true e = let both : true ≡ false = sym (stands-indices xs f fs e) ∙ h.0 in absurd (cc)
     by false e = e
-
-absent-indices : (ys : List ℕ) (t : ℕ) (ts : List ℕ) → AreDistinct ys → t < length ys → AreBelow (length ys) ts → stands t ts ≡ false → stands (index_at ys t) (indices_at ys ts) ≡ false
-absent-indices ys t [] d low below h = refl
-absent-indices ys t (a ∷ more) d low below h = by (eqb a t) refl (absent-indices ys t more d low below.1) h
-  where
-    by : (b : Bool) → eqb a t ≡ b → (stands t more ≡ false → stands (index_at ys t) (indices_at ys more) ≡ false) → (b || stands t more) ≡ false
-        → (eqb (index_at ys a) (index_at ys t) || stands (index_at ys t) (indices_at ys more)) ≡ false
-    by true e rest h = absurd (cc)
-    by false e rest h =
-        ap (λ b. b || stands (index_at ys t) (indices_at ys more))
-        (ne_eqb (index_at ys a) (index_at ys t) (λ same. eqb-false a t e (sym (first_place ys a (index_at ys t) d below.0 same) ∙ first_place ys t (index_at ys t) d low refl)))
-        ∙ rest h
-
-distinct-indices : (ys tos : List ℕ) → AreDistinct ys → AreBelow (length ys) tos → AreDistinct tos → AreDistinct (indices_at ys tos)
-distinct-indices ys [] d below once = tt
-distinct-indices ys (t ∷ ts) d below once = (absent-indices ys t ts d below.0 below.1 once.0, distinct-indices ys ts d below.1 once.1)
 
 turned : (xs ys froms tos : List ℕ) → AreMoves xs ys froms tos → AreDistinct ys → AreMoves ys xs tos froms
 turned xs ys froms tos moves d =

@@ -9,6 +9,7 @@ use Rattle.map_core.specs.Layouts.{local_index}
 use Rattle.map_core.specs.Classes.{indices_at}
 use Rattle.letter_codec.specs.declared.kind.Kind.TheVariants.{Nums}
 use Rattle.letter_codec.specs.Letters.{letter_bytes, number_bytes}
+use Rattle.distributor.specs.Arrivals.{numbers_in}
 use Rattle.multivector.specs.Vectors.{VectorState, vector_table}
 
 -- The numbers of a vector by global index and column.
@@ -26,3 +27,8 @@ row_numbers v l = take v.columns (drop (l * v.columns) v.values)
 -- The letter of the rows at these local indices: their global indices, and behind them the numbers row after row.
 abbrev pub vector_letter : {S : Type 0} → Conversions S → VectorState S → List ℕ → List ℕ
 vector_letter F v froms = letter_bytes Nums (indices_at v.map froms) (number_bytes F (flat_map (row_numbers v) froms))
+
+-- The rows of a letter with these bytes of numbers that come for positions of a vector: row k has the global index of position
+-- k.
+abbrev pub letter_vector : {S : Type 0} → Conversions S → VectorState S → List ℕ → List ℕ → VectorState S
+letter_vector F v tos numbers = record { map = indices_at v.map tos; columns = v.columns; values = numbers_in F numbers }

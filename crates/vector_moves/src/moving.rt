@@ -6,12 +6,12 @@ ghost use Rattle.map_core.specs.Plans.{export_list, remote_list};
 ghost use Rattle.byte_pool.specs.Blocks.{free_block, has_room};
 ghost use Rattle.byte_pool.specs.Leases.{IsLeastRoom, leases, sizes, with_lease};
 ghost use Rattle.combine_modes.specs.Modes.{gathered};
-ghost use Rattle.letter_codec.specs.Letters.{AreWords};
+ghost use Rattle.letter_codec.specs.Letters.{AreWords, IsLetter, letter_bytes};
 ghost use Rattle.letter_codec.specs.Parts.{AreParts};
 ghost use Rattle.distributor.specs.Arrivals.{IsOfKind};
 ghost use Rattle.distributor.specs.Transfers.{nums_length, letter_lengths, IsPartReserved};
 ghost use Rattle.multivector.specs.Vectors.{VectorState, IsVector, HasSameShape};
-ghost use Rattle.vector_moves.specs.Rows.{by_index, rows_of, vector_letter};
+ghost use Rattle.vector_moves.specs.Rows.{by_index, rows_of, vector_letter, letter_vector};
 ghost use Rattle.vector_moves.specs.Moves.{AreMoves, own_sources, own_targets, IsMoveFault};
 
 use crate::MoveFault;
@@ -98,8 +98,8 @@ fn has_rows(letter: &Letter<'_>, columns: u32) -> bool
 }
 
 /// Combines the rows of a letter from a rank, given as its bytes, with those of `y` at the positions that the plan has for
-/// this rank: row k at position k of the list. So rows of a vector whose positions have the same global indices come to
-/// the rows of these indices. All other rows stay. It takes no memory.
+/// this rank, none of them twice: row k at position k of the list. So rows of a vector whose positions have the same global
+/// indices come to the rows of these indices. All other rows stay. It takes no memory.
 ///
 /// The transfer is one for as many columns as `y` has, and the plan's positions are those of `y`. `NotALetter` comes exactly
 /// where the bytes are no letter of rows with so many numbers, `NotThePlan` exactly where they are one of another number of
@@ -117,6 +117,9 @@ pub fn absorb<S: Scalar>(
     ensures rows { (x : VectorState S) (froms : List ℕ) → IsVector x → AreDistinct x.map → x.columns ≡ y.old.columns
         → AreMoves x.map y.old.map froms (remote_list transfer.now.plan from) → bytes.now ≡ vector_letter S.conversions x froms
         → OnOk result (by_index y.new ≡ gathered S.semiring mode true (by_index y.old) (rows_of x (indices_at x.map froms) ∷ [])) }
+    ensures letter { (words numbers : List ℕ) → IsLetter Kind.Nums words numbers → bytes.now ≡ letter_bytes Kind.Nums words numbers
+        → AreDistinct (remote_list transfer.now.plan from)
+        → OnOk result (by_index y.new ≡ gathered S.semiring mode true (by_index y.old) (rows_of (letter_vector S.conversions y.old (remote_list transfer.now.plan from) numbers) (indices_at y.old.map (remote_list transfer.now.plan from)) ∷ [])) }
     ensures always { (x : VectorState S) (froms : List ℕ) → IsVector x → x.columns ≡ y.old.columns
         → AreMoves x.map y.old.map froms (remote_list transfer.now.plan from) → bytes.now ≡ vector_letter S.conversions x froms
         → AreWords (indices_at x.map froms) → IsOk result }

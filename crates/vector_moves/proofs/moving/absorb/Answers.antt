@@ -15,7 +15,7 @@ use Rattle.distributor.proofs.Numbered.{length-numbered}
 use Rattle.distributor.proofs.Absorbed.{of-numbers}
 use Rattle.vector_moves.specs.Rows.{row_numbers}
 use Rattle.vector_moves.proofs.Came.{same-by_index}
-use Rattle.vector_moves.proofs.Absorbing.{is-letter, rows-letter, read-kind, read-letter, entries-taken, absorbed-rows, same-rows}
+use Rattle.vector_moves.proofs.Absorbing.{is-letter, rows-letter, read-kind, read-letter, entries-taken, absorbed-rows, absorbed-letter, same-rows}
 use Rattle.vector_moves.proofs.moving.absorb.Goals as goal
 
 pub returns-in_default-clause-always : goal.returns-in_default-clause-always
@@ -51,6 +51,16 @@ returns-in-Ok-clause-rows g c =
     absorbed-rows g.S.Scalar.conversions g.met.S.Scalar.conversion_laws g.S.Scalar.semiring c.args.mode c.in-Some.letter c.args.bytes.now c.args.transfer.now.width c.args.y.now
     c.requires.columns kind c.in-Some.ensures.some.0 c.in-Some.ensures.some.1 small c.absorb.new.target (remote_list c.args.transfer.now.plan c.args.from)
     (subst D (c.deref.ensures ∙ c.map.ensures.map) c.len.ensures.distinct) c.in-Ok.ensures.shape.0 c.in-Ok.ensures.cells
+
+pub returns-in-Ok-clause-letter : goal.returns-in-Ok-clause-letter
+returns-in-Ok-clause-letter g c =
+    let P : ℕ → Type 0 = λ n. IsOfKind (Some n) c.in-Some.letter in
+    let kind = subst P c.columns.ensures.columns (c.has_rows.ensures.rows.0 c.if-not-has_rows.false) in
+    let D : List ℕ → Type 0 = AreDistinct in
+    let small : length c.args.bytes.now < 2 ^ 64 = omega arith in
+    absorbed-letter g.S.Scalar.conversions g.met.S.Scalar.conversion_laws g.S.Scalar.semiring c.args.mode c.in-Some.letter c.args.bytes.now c.args.transfer.now.width c.args.y.now
+    c.requires.columns kind c.in-Some.ensures.some.0 c.in-Some.ensures.some.1 small c.absorb.new.target (remote_list c.args.transfer.now.plan c.args.from)
+    (subst D (c.deref.ensures ∙ c.map.ensures.map) c.len.ensures.distinct) c.in-Ok.ensures.shape.0 c.requires.targets c.in-Ok.ensures.same_count c.in-Ok.ensures.cells
 
 pub returns-in-Err-NotThePlan-clause-always : goal.returns-in-Err-NotThePlan-clause-always
 returns-in-Err-NotThePlan-clause-always g c = λ x froms is columns moves e fit.
