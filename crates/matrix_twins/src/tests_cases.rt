@@ -1,8 +1,7 @@
-//! Random small matrices and vectors for the tests.
+//! Random small matrices for the tests.
 use crate::{Sequence, filled};
 use crs_matrix::{CrsMatrix, MatrixFill};
 use map_core::{Gid, LocalMap};
-use multivector::MultiVector;
 use scalar_laws::{Scalar, Weighed};
 use std::alloc::{AllocError, Global};
 use std::rc::Rc;
@@ -12,24 +11,22 @@ use tables::Cell;
 /// All global indices are below this.
 pub const SIZE: Gid = 9;
 
-/// Each column has one of so many owners.
-const OWNERS: u32 = 3;
+/// The owners of the columns of a matrix, which ascend.
+pub const OWNERS: [u32; 9] = [2, 0, 1, 0, 2, 1, 1, 0, 2];
 
-/// The rows of a rank, a domain and the cells of a matrix on these rows.
+/// Cells in the order in which they were inserted, and the matrix that they make.
 #[derive(Drop)]
-pub struct Case {
-    pub rows: Rc<LocalMap>,
-    pub domain: Rc<LocalMap>,
+pub struct Inserted {
     pub cells: Vec<Cell<Weighed>>,
+    pub fill: MatrixFill<Weighed>,
 }
 
-/// An error where two answers differ.
-pub fn check(is_same: bool, what: &'static str) -> Result<(), Fail> {
-    if is_same {
-        Ok(())
-    } else {
-        Err(Fail::new(what))
-    }
+/// The cells of a matrix, which is completed with a domain.
+#[derive(Drop)]
+pub struct Case {
+    pub domain: Rc<LocalMap>,
+    pub cells: Vec<Cell<Weighed>>,
+    pub matrix: CrsMatrix<Weighed>,
 }
 
 /// A small number of either sign, a zero, a number that weighs more than its magnitude, or Over.
@@ -46,7 +43,7 @@ pub fn random_number(sequence: &mut Sequence) -> Weighed {
 }
 
 /// Some of the indices, in any order.
-fn random_map(alloc: Global, sequence: &mut Sequence) -> Result<Rc<LocalMap>, Fail> {
+pub fn random_map(alloc: Global, sequence: &mut Sequence) -> Result<Rc<LocalMap>, Fail> {
     let mut list = Vec::new(alloc);
     for gid in 0..SIZE {
         if sequence.below(4) > 0 {
@@ -78,133 +75,35 @@ pub fn random_cells_on(
     Ok(cells)
 }
 
-/// The case of a number.
+/// Random cells on the rows of a map, and their matrix.
+pub fn random_fill(
+    alloc: Global,
+    sequence: &mut Sequence,
+    rows: &Rc<LocalMap>,
+) -> Result<Inserted, Fail> {
+    let cells = random_cells_on(alloc, sequence, rows)?;
+    let fill = filled(alloc, rows.clone()?, &cells)?;
+    Ok(Inserted { cells, fill })
+}
+
+/// The matrix, completed with a domain.
+fn complete(fill: MatrixFill<Weighed>, domain: &LocalMap) -> Result<CrsMatrix<Weighed>, Fail> {
+    let count = fill.columns()?.len();
+    if count > OWNERS.len() {
+        return Err(Fail::new("too many columns"));
+    }
+    Ok(fill.fill_complete(domain, &OWNERS[..count])?)
+}
+
+/// A random matrix with a random domain.
 pub fn random_case(alloc: Global, sequence: &mut Sequence) -> Result<Case, Fail> {
     let rows = random_map(alloc, sequence)?;
     let domain = random_map(alloc, sequence)?;
-    let cells = random_cells_on(alloc, sequence, &rows)?;
+    let inserted = random_fill(alloc, sequence, &rows)?;
+    let matrix = complete(inserted.fill, &domain)?;
     Ok(Case {
-        rows,
         domain,
-        cells,
+        cells: inserted.cells,
+        matrix,
     })
-}
-
-/// The owner of a column.
-fn owner_of(col: Gid) -> u32 {
-    (col * 7 % 5) as u32 % OWNERS
-}
-
-/// The owners of columns.
-pub fn owners_of(alloc: Global, columns: &[Gid]) -> Result<Vec<u32>, AllocError> {
-    let mut owners = Vec::new(alloc);
-    for col in columns {
-        owners.push(owner_of(*col % SIZE))?;
-    }
-    Ok(owners)
-}
-
-/// Whether a cell has the column.
-fn has_column(cells: &[Cell<Weighed>], col: Gid) -> bool {
-    for cell in cells {
-        if cell.col == col {
-            return true;
-        }
-    }
-    false
-}
-
-/// The columns of cells: those that the domain has, in its order, then the others by owner, then by index.
-pub fn plain_columns(alloc: Global, case: &Case) -> Result<Vec<Gid>, AllocError> {
-    let mut list = Vec::new(alloc);
-    for lid in 0..case.domain.len() {
-        if let Some(gid) = case.domain.global_of(lid) {
-            if has_column(&case.cells, gid) {
-                list.push(gid)?;
-            }
-        }
-    }
-    for owner in 0..OWNERS {
-        for gid in 0..SIZE {
-            let is_foreign = case.domain.local_of(gid).is_none() && owner_of(gid) == owner;
-            if is_foreign && has_column(&case.cells, gid) {
-                list.push(gid)?;
-            }
-        }
-    }
-    Ok(list)
-}
-
-/// Whether a map has these indices in this order.
-pub fn has_list(map: &LocalMap, list: &[Gid]) -> bool {
-    if map.len() as usize != list.len() {
-        return false;
-    }
-    for lid in 0..map.len() {
-        if map.global_of(lid) != list.get(lid as usize).copied() {
-            return false;
-        }
-    }
-    true
-}
-
-/// The matrix of a case, completed.
-pub fn complete(alloc: Global, case: &Case) -> Result<CrsMatrix<Weighed>, Fail> {
-    let fill = filled(alloc, case.rows.clone()?, &case.cells)?;
-    let columns = fill.columns()?;
-    let owners = owners_of(alloc, &columns)?;
-    if owners.len() != columns.len() || columns.len() > 1000 {
-        return Err(Fail::new("one owner for each column is wanted"));
-    }
-    Ok(fill.fill_complete(&case.domain, &owners)?)
-}
-
-/// A vector on a map with random numbers.
-pub fn random_vector(
-    alloc: Global,
-    sequence: &mut Sequence,
-    map: &Rc<LocalMap>,
-    columns: u32,
-) -> Result<MultiVector<Weighed>, Fail> {
-    let mut vector = MultiVector::new(alloc, map.clone()?, columns, Weighed::zero())?;
-    for lid in 0..vector.map().len() {
-        for col in 0..vector.columns() {
-            if lid < vector.map().len() && col < vector.columns() {
-                vector.set(lid, col, random_number(sequence));
-            }
-        }
-    }
-    Ok(vector)
-}
-
-/// The number of an entry and a column, where they are there.
-pub fn entry(vector: &MultiVector<Weighed>, lid: u32, col: u32) -> Option<Weighed> {
-    if lid < vector.map().len() && col < vector.columns() {
-        Some(vector.cell(lid, col))
-    } else {
-        None
-    }
-}
-
-/// The cells of a vector, by global index and column.
-pub fn vector_cells(
-    alloc: Global,
-    vector: &MultiVector<Weighed>,
-) -> Result<Vec<Cell<Weighed>>, AllocError> {
-    let mut cells = Vec::new(alloc);
-    for lid in 0..vector.map().len() {
-        for col in 0..vector.columns() {
-            if let (Some(row), Some(value)) = (
-                vector.map().global_of(lid),
-                entry(vector, lid, col),
-            ) {
-                cells.push(Cell {
-                    row,
-                    col: col as Gid,
-                    value,
-                })?;
-            }
-        }
-    }
-    Ok(cells)
 }
