@@ -1,12 +1,14 @@
 //! The matrices that are given.
-ghost use Rattle.std.specs.Prelude.{◌≡◌, ◌<◌, ◌≤◌, ◌*◌, IfOk, length};
+ghost use Rattle.std.specs.Prelude.{◌≡◌, ◌<◌, ◌≤◌, ℕ, IfOk, length};
 ghost use Rattle.tables.specs.Tables.{table_of, AreWithin};
 ghost use Rattle.map_core.specs.Layouts.{rank_list};
 ghost use Rattle.map_core.specs.Uniform.{uniform_layout};
+ghost use Rattle.crs_graph.specs.Fills.{has_place};
+ghost use Rattle.crs_graph.specs.Graphs.{graph_has};
 ghost use Rattle.crs_matrix.specs.Matrices.{crs_table};
 ghost use Rattle.crs_matrix.specs.Rows.{row_table};
 
-use crs_graph::FillFault;
+use crs_graph::{CrsGraph, FillFault, GraphFill};
 use crs_matrix::{CrsMatrix, MatrixFill};
 use map_core::{Gid, Layout, LocalMap};
 use matrix_twins::{Sequence, filled, random_cells};
@@ -24,14 +26,19 @@ pub fn row_map(alloc: Global, rows: u32) -> Result<Rc<LocalMap>, AllocError>
     Ok(layout.list(0).clone()?)
 }
 
-/// Four cells a row at random places of a square matrix.
-pub fn scattered(alloc: Global, rows: u32) -> Result<Vec<Cell<Weighed>>, AllocError>
+/// So many cells at random places of a square matrix.
+pub fn scattered(alloc: Global, rows: u32, count: u32) -> Result<Vec<Cell<Weighed>>, AllocError>
     requires some { 0 < rows }
-    requires few { rows ≤ 4000000 }
-    ensures count { IfOk result (λ cells. length cells.items ≡ 4 * rows) }
+    ensures count { IfOk result (λ cells. length cells.items ≡ count) }
     ensures within { IfOk result (λ cells. AreWithin rows rows cells.items) }
 {
-    random_cells(alloc, &mut Sequence::new(7), 4 * rows, rows as Gid, rows as Gid)
+    random_cells(
+        alloc,
+        &mut Sequence::new(7),
+        count,
+        rows as Gid,
+        rows as Gid,
+    )
 }
 
 /// The cells of the tridiagonal matrix with 2 on the diagonal and -1 on both sides of it.
@@ -91,6 +98,22 @@ fn completed<S: Scalar>(
 ) -> Result<CrsMatrix<S>, AllocError>
     ensures rows { IfOk result (λ a. a.graph.rows ≡ fill.rows) }
     ensures table { IfOk result (λ a. crs_table a ≡ row_table fill) }
+{
+    let count = fill.columns()?.len();
+    if count > u32::MAX as usize {
+        return Err(AllocError);
+    }
+    let owners = zeros(alloc, count)?;
+    fill.fill_complete(domain, &owners)
+}
+
+/// The structure of a fill on the rows of a map, which is its domain too.
+pub fn structured(
+    alloc: Global,
+    domain: &LocalMap,
+    fill: GraphFill,
+) -> Result<Rc<CrsGraph>, AllocError>
+    ensures places { IfOk result (λ graph. (row col : ℕ) → graph_has graph.value row col ≡ has_place fill row col) }
 {
     let count = fill.columns()?.len();
     if count > u32::MAX as usize {

@@ -1,15 +1,16 @@
-//! Times the matrices of one rank: `fill`, `apply`, `transposed`, `transpose`, `product` or `sum`, how many rounds, and how many
-//! rows. bench/matrices.sh runs it beside the same work in C++.
+//! Times the matrices of one rank: a word of `WORDS`, how many rounds, how many rows, and how many cells there are. Without a word
+//! it does all of them in turn, with 300,000 cells on 100,000 rows. bench/matrices.sh runs it beside the same work in C++, which
+//! prints the same totals.
 #![tactic(auto)]
 
 ghost use Rattle.std.specs.Prelude.{◌≡◌, ◌<◌, ◌≤◌, IfOk, length};
 
 mod given;
 
-use crs_graph::FillFault;
-use crs_matrix::{CrsMatrix, MatrixFill};
+use crs_graph::{CrsGraph, FillFault, GraphFill};
+use crs_matrix::{CrsMatrix, MatrixFill, RowFault};
 use distributor::DistSource;
-use given::{built, row_map, scattered, tridiagonal, whole};
+use given::{built, row_map, scattered, structured, tridiagonal, whole};
 use map_core::LocalMap;
 use matrix_twins::filled;
 use multivector::MultiVector;
@@ -131,7 +132,12 @@ fn zeros(alloc: Global, map: &Rc<LocalMap>) -> Result<MultiVector<Weighed>, Allo
 }
 
 /// Builds the matrix of cells so many times.
-fn fill(alloc: Global, rows: &Rc<LocalMap>, cells: &[Cell<Weighed>], rounds: u32) -> Result<Weighed, FillFault> {
+fn fill(
+    alloc: Global,
+    rows: &Rc<LocalMap>,
+    cells: &[Cell<Weighed>],
+    rounds: u32,
+) -> Result<Weighed, FillFault> {
     let mut total = Weighed::zero();
     for round in 0..rounds {
         let a = built(alloc, rows, cells)?;
@@ -142,8 +148,87 @@ fn fill(alloc: Global, rows: &Rc<LocalMap>, cells: &[Cell<Weighed>], rounds: u32
     Ok(total)
 }
 
+/// Inserts the places of cells.
+fn inserted(
+    alloc: Global,
+    rows: &Rc<LocalMap>,
+    cells: &[Cell<Weighed>],
+) -> Result<GraphFill, FillFault> {
+    let mut fill = GraphFill::new(alloc, rows.clone()?)?;
+    for cell in cells {
+        let _ = fill.insert(cell.row, cell.col)?;
+    }
+    Ok(fill)
+}
+
+/// The total of the columns of a structure, which are local indices.
+fn total_of_columns(graph: &CrsGraph) -> Weighed {
+    let mut total = nothing();
+    for lid in 0..graph.row_map().len() {
+        for col in graph.row(lid) {
+            total = with_number(total, whole(*col as i128));
+        }
+    }
+    total.sum
+}
+
+/// Builds the structure of cells so many times.
+fn structure(
+    alloc: Global,
+    rows: &Rc<LocalMap>,
+    cells: &[Cell<Weighed>],
+    rounds: u32,
+) -> Result<Weighed, FillFault> {
+    let mut total = Weighed::zero();
+    for round in 0..rounds {
+        let fill = inserted(alloc, rows, cells)?;
+        let graph = structured(alloc, rows, fill)?;
+        if round + 1 == rounds {
+            total = total_of_columns(&graph);
+        }
+    }
+    Ok(total)
+}
+
+/// Adds each cell once more, multiplies all numbers by 3, and puts every other cell in place of what is there.
+fn change_all(a: &mut CrsMatrix<Weighed>, cells: &[Cell<Weighed>]) -> Result<(), RowFault> {
+    for cell in cells {
+        a.sum_into(cell.row, cell.col, cell.value)?;
+    }
+    a.scale(whole(3));
+    for at in 0..cells.len() {
+        if at % 2 == 0 {
+            a.replace(cells[at].row, cells[at].col, cells[at].value)?;
+        }
+    }
+    Ok(())
+}
+
+/// Changes copies of the matrix of cells.
+fn change(
+    alloc: Global,
+    rows: &Rc<LocalMap>,
+    cells: &[Cell<Weighed>],
+    rounds: u32,
+) -> Result<Weighed, FillFault> {
+    let a = built(alloc, rows, cells)?;
+    let mut total = Weighed::zero();
+    for round in 0..rounds {
+        let mut b = a.copy()?;
+        if change_all(&mut b, cells).is_ok() && round + 1 == rounds {
+            total = total_of_rows(&b);
+        }
+    }
+    Ok(total)
+}
+
 /// Adds the product of a matrix with a vector to another one so many times.
-fn apply_rounds(a: &CrsMatrix<Weighed>, x: &MultiVector<Weighed>, y: &mut MultiVector<Weighed>, rounds: u32)
+fn apply_rounds(
+    a: &CrsMatrix<Weighed>,
+    x: &MultiVector<Weighed>,
+    y: &mut MultiVector<Weighed>,
+    rounds: u32,
+)
     requires domain { x.now.map ≡ a.now.graph.cols }
     requires range { y.old.map ≡ a.now.graph.rows }
     requires columns { y.old.columns ≡ x.now.columns }
@@ -155,7 +240,12 @@ fn apply_rounds(a: &CrsMatrix<Weighed>, x: &MultiVector<Weighed>, y: &mut MultiV
 }
 
 /// Multiplies the matrix of cells by a vector.
-fn apply(alloc: Global, rows: &Rc<LocalMap>, cells: &[Cell<Weighed>], rounds: u32) -> Result<Weighed, FillFault> {
+fn apply(
+    alloc: Global,
+    rows: &Rc<LocalMap>,
+    cells: &[Cell<Weighed>],
+    rounds: u32,
+) -> Result<Weighed, FillFault> {
     let a = built(alloc, rows, cells)?;
     let x = digits(alloc, a.graph().col_map())?;
     let mut y = zeros(alloc, a.graph().row_map())?;
@@ -164,7 +254,12 @@ fn apply(alloc: Global, rows: &Rc<LocalMap>, cells: &[Cell<Weighed>], rounds: u3
 }
 
 /// Adds the product of a transposed matrix with a vector to another one so many times.
-fn transposed_rounds(a: &CrsMatrix<Weighed>, x: &MultiVector<Weighed>, y: &mut MultiVector<Weighed>, rounds: u32)
+fn transposed_rounds(
+    a: &CrsMatrix<Weighed>,
+    x: &MultiVector<Weighed>,
+    y: &mut MultiVector<Weighed>,
+    rounds: u32,
+)
     requires range { x.now.map ≡ a.now.graph.rows }
     requires domain { y.old.map ≡ a.now.graph.cols }
     requires columns { y.old.columns ≡ x.now.columns }
@@ -176,7 +271,12 @@ fn transposed_rounds(a: &CrsMatrix<Weighed>, x: &MultiVector<Weighed>, y: &mut M
 }
 
 /// Multiplies the transposed matrix of cells by a vector.
-fn transposed(alloc: Global, rows: &Rc<LocalMap>, cells: &[Cell<Weighed>], rounds: u32) -> Result<Weighed, FillFault> {
+fn transposed(
+    alloc: Global,
+    rows: &Rc<LocalMap>,
+    cells: &[Cell<Weighed>],
+    rounds: u32,
+) -> Result<Weighed, FillFault> {
     let a = built(alloc, rows, cells)?;
     let x = digits(alloc, a.graph().row_map())?;
     let mut y = zeros(alloc, a.graph().col_map())?;
@@ -185,7 +285,12 @@ fn transposed(alloc: Global, rows: &Rc<LocalMap>, cells: &[Cell<Weighed>], round
 }
 
 /// Transposes the matrix of cells.
-fn transpose(alloc: Global, rows: &Rc<LocalMap>, cells: &[Cell<Weighed>], rounds: u32) -> Result<Weighed, FillFault> {
+fn transpose(
+    alloc: Global,
+    rows: &Rc<LocalMap>,
+    cells: &[Cell<Weighed>],
+    rounds: u32,
+) -> Result<Weighed, FillFault> {
     let a = built(alloc, rows, cells)?;
     let mut total = Weighed::zero();
     for round in 0..rounds {
@@ -198,7 +303,12 @@ fn transpose(alloc: Global, rows: &Rc<LocalMap>, cells: &[Cell<Weighed>], rounds
 }
 
 /// Multiplies the matrix of cells by itself.
-fn product(alloc: Global, rows: &Rc<LocalMap>, cells: &[Cell<Weighed>], rounds: u32) -> Result<Weighed, FillFault> {
+fn product(
+    alloc: Global,
+    rows: &Rc<LocalMap>,
+    cells: &[Cell<Weighed>],
+    rounds: u32,
+) -> Result<Weighed, FillFault> {
     let a = built(alloc, rows, cells)?;
     let b = filled(alloc, a.graph().col_map().clone()?, cells)?;
     let mut total = Weighed::zero();
@@ -212,7 +322,12 @@ fn product(alloc: Global, rows: &Rc<LocalMap>, cells: &[Cell<Weighed>], rounds: 
 }
 
 /// Twice the matrix of cells less the same matrix.
-fn sum(alloc: Global, rows: &Rc<LocalMap>, cells: &[Cell<Weighed>], rounds: u32) -> Result<Weighed, FillFault> {
+fn sum(
+    alloc: Global,
+    rows: &Rc<LocalMap>,
+    cells: &[Cell<Weighed>],
+    rounds: u32,
+) -> Result<Weighed, FillFault> {
     let a = built(alloc, rows, cells)?;
     let b = filled(alloc, rows.clone()?, cells)?;
     let mut total = Weighed::zero();
@@ -225,35 +340,88 @@ fn sum(alloc: Global, rows: &Rc<LocalMap>, cells: &[Cell<Weighed>], rounds: u32)
     Ok(total)
 }
 
+/// What is measured.
+const WORDS: [&str; 8] = [
+    "fill",
+    "structure",
+    "change",
+    "apply",
+    "transposed",
+    "transpose",
+    "product",
+    "sum",
+];
+
 /// The total of what a word asks for.
-fn measured(alloc: Global, word: Option<&str>, rounds: u32, rows: u32) -> Result<Weighed, FillFault>
+fn measured(
+    alloc: Global,
+    word: &str,
+    rounds: u32,
+    rows: u32,
+    count: u32,
+) -> Result<Weighed, FillFault>
     requires some { 0 < rows }
     requires few { rows ≤ 4000000 }
 {
     let map = row_map(alloc, rows)?;
-    if let Some("product") = word {
+    if word == "product" {
         return product(alloc, &map, &tridiagonal(alloc, rows)?, rounds);
     }
-    let cells = scattered(alloc, rows)?;
+    let cells = scattered(alloc, rows, count)?;
     match word {
-        Some("apply") => apply(alloc, &map, &cells, rounds),
-        Some("transposed") => transposed(alloc, &map, &cells, rounds),
-        Some("transpose") => transpose(alloc, &map, &cells, rounds),
-        Some("sum") => sum(alloc, &map, &cells, rounds),
+        "structure" => structure(alloc, &map, &cells, rounds),
+        "change" => change(alloc, &map, &cells, rounds),
+        "apply" => apply(alloc, &map, &cells, rounds),
+        "transposed" => transposed(alloc, &map, &cells, rounds),
+        "transpose" => transpose(alloc, &map, &cells, rounds),
+        "sum" => sum(alloc, &map, &cells, rounds),
         _ => fill(alloc, &map, &cells, rounds),
     }
 }
 
-fn main(rt: HostRuntime) -> io::Result<()> {
-    let word = env::args(&rt)?.nth(1);
-    let word = word.as_ref().map(|word| word.as_str());
-    let rounds = env::args(&rt)?.nth(2);
-    let rounds = number_or(rounds.as_ref().map(|word| word.as_str()), 0, 1_000_000, 1);
-    let rows = env::args(&rt)?.nth(3);
-    let rows = number_or(rows.as_ref().map(|word| word.as_str()), 1, 4_000_000, 1_000);
-    match measured(rt.alloc(), word, rounds, rows).map(|total| total.parts()) {
-        Ok(Some((value, weight))) => println!(rt; "{value} {weight}"),
-        Ok(None) => println!(rt; "over"),
-        Err(fault) => println!(rt; "{fault}"),
+/// Prints the total of what a word asks for.
+fn print_total(rt: &HostRuntime, word: &str, rounds: u32, rows: u32, count: u32) -> io::Result<()>
+    requires some { 0 < rows }
+    requires few { rows ≤ 4000000 }
+{
+    match measured(rt.alloc(), word, rounds, rows, count).map(|total| total.parts()) {
+        Ok(Some((value, weight))) => println!(rt; "{word} {value} {weight}"),
+        Ok(None) => println!(rt; "{word} over"),
+        Err(fault) => println!(rt; "{word} {fault}"),
     }
+}
+
+/// Argument number `at` of the command line, where it is a number between two limits, or another number.
+fn number_at(
+    rt: &HostRuntime,
+    at: usize,
+    least: u32,
+    greatest: u32,
+    missing: u32,
+) -> io::Result<u32>
+    requires above { least ≤ missing }
+    requires below { missing ≤ greatest }
+    ensures above { IfOk result (λ number. least ≤ number) }
+    ensures below { IfOk result (λ number. number ≤ greatest) }
+{
+    let word = env::args(rt)?.nth(at);
+    Ok(number_or(
+        word.as_ref().map(|word| word.as_str()),
+        least,
+        greatest,
+        missing,
+    ))
+}
+
+fn main(rt: HostRuntime) -> io::Result<()> {
+    let rounds = number_at(&rt, 2, 0, 1_000_000, 1)?;
+    let rows = number_at(&rt, 3, 1, 4_000_000, 100_000)?;
+    let count = number_at(&rt, 4, 0, 100_000_000, 300_000)?;
+    if let Some(word) = env::args(&rt)?.nth(1) {
+        return print_total(&rt, word.as_str(), rounds, rows, count);
+    }
+    for word in WORDS {
+        print_total(&rt, word, rounds, rows, count)?;
+    }
+    Ok(())
 }
