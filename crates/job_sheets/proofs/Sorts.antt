@@ -27,8 +27,8 @@ use Rattle.job_sheets.proofs.Summed.{sum-each_rank}
 use Rattle.job_sheets.proofs.WholeMaps.{is_total_form, total-known}
 
 -- the shape that was read
-pub shape-read : (shapes : List Shape) (f : ℕ → Shape) (v : ℕ) (s : Shape) → v < length shapes → s ≡ get_or shapes v s → at_list shapes ≡ f → s ≡ f v
-shape-read shapes f v s l is e = is ∙ get_or_default shapes v s no_shape l ∙ (λ t. e t v)
+pub shape-read : (shapes : List Shape) (f : ℕ → Shape) (v count : ℕ) (s : Shape) → length shapes ≡ count → v < count → s ≡ get_or shapes v s → at_list shapes ≡ f → s ≡ f v
+shape-read shapes f v count s many l is e = is ∙ get_or_default shapes v s no_shape (subst (λ n. v < n) (sym many) l) ∙ (λ t. e t v)
 
 -- each index of the map of a vector has one owner
 pub vector-owned : (job : Job) → IsValid job → (v : ℕ) → v < value_count job → (s : Shape) → s ≡ shape job v → s.sort ≡ Vector → IsOneToOne (layout_of job s.rows)

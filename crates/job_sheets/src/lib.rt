@@ -18,6 +18,8 @@
 mod cells;
 mod sheets;
 mod shown;
+#[cfg(test)]
+mod tests;
 mod totals;
 
 pub use sheets::value_sheets;

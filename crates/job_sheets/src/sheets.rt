@@ -28,7 +28,7 @@ fn width_of(job: &Job, shape: Shape) -> u64
 }
 
 /// The array of the sum of the ranks' cells, column by column. `Err` means that memory ran out.
-fn array_sheet<S: Scalar>(
+pub(crate) fn array_sheet<S: Scalar>(
     alloc: Global,
     job: &Job,
     shape: Shape,
@@ -95,7 +95,7 @@ fn part_sheet<S: Scalar>(
 }
 
 /// One sheet for each rank. `Err` means that memory ran out.
-fn part_sheets<S: Scalar>(
+pub(crate) fn part_sheets<S: Scalar>(
     alloc: Global,
     job: &Job,
     shape: Shape,
