@@ -5,3 +5,4 @@ pub mod LocalValues
 pub mod Overs
 pub mod Writables
 pub mod RankResults
+pub mod Finished

@@ -29,6 +29,11 @@ module _ {N : Type 0} where
   get-last [] y = refl
   get-last (x ∷ xs) y = get-last xs y
 
+  pub length-push : (xs : List N) (y : N) (n : ℕ) → length xs ≡ n → length (xs ++ y ∷ []) ≡ n + 1
+  length-push [] y n e = omega arith
+  length-push (x ∷ xs) y zero e = absurd (omega arith)
+  length-push (x ∷ xs) y (suc n) e = let more = length-push xs y n (omega arith) in omega arith
+
   -- one more rank that stands so
   pub stands-push : (stands : N → PeerState → Type 0) (at : ℕ → PeerState) (xs : List N) (y : N) (count : ℕ) → length xs ≡ count
       → ((k : ℕ) → k < count → StandsAt stands xs k (at k)) → stands y (at count) → (k : ℕ) → k < count + 1 → StandsAt stands (xs ++ y ∷ []) k (at k)
