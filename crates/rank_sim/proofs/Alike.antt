@@ -23,6 +23,7 @@ use Rattle.model_defs.specs.Valid.{ArePrintable, IsPrintable, IsValid, given_cou
 use Rattle.rank_sim.specs.declared.ends.End.{End}
 use Rattle.rank_sim.specs.declared.ends.End.TheVariants as end
 use Rattle.rank_sim.specs.declared.ends.RunFault.{RunFault}
+use Rattle.rank_sim.specs.Ranks.{PrintsBelow}
 use Rattle.rank_sim.specs.Runs.{IsOutcome, Shows}
 
 -- ---- lists of numbers
@@ -36,11 +37,6 @@ any-below f g n zero m l h = refl
 any-below f g n (suc k) m l h = λ t. h n (omega arith) t || any-below f g (n + 1) k m (omega arith) h t
 
 -- ---- which values are printed
-
--- what a statement prints is one of the first n values
-abbrev pub PrintsBelow : ℕ → Step → Type 0
-PrintsBelow n (step.Print v) = v < n
-PrintsBelow n _ = Unit {0}
 
 prints-low : (job : Job) (k n : ℕ) (s : Step) → IsPrintable job k s → k ≤ n → PrintsBelow n s
 prints-low job k n (step.Print v) h l = let low = h.0 in omega arith

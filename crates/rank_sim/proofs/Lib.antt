@@ -6,3 +6,4 @@ pub mod Overs
 pub mod Writables
 pub mod RankResults
 pub mod Finished
+pub mod PiecesShown

@@ -44,7 +44,8 @@ use Rattle.model_defs.specs.Turns.{Each}
 use Rattle.model_defs.specs.Valid.{IsValid, IsValidMaker}
 use Rattle.model_defs.proofs.KnownShapes.{shape-of-made}
 use Rattle.rank_sim.specs.Writable.{HasPlacesInOrder, IsWholeArray, IsWritable}
-use Rattle.rank_sim.proofs.Alike.{PrintsBelow, prints-known}
+use Rattle.rank_sim.specs.Ranks.{PrintsBelow}
+use Rattle.rank_sim.proofs.Alike.{prints-known}
 use Rattle.rank_sim.proofs.LocalValues.{formed-is}
 
 -- ---- sizes

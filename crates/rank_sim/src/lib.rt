@@ -4,5 +4,8 @@
 mod ends;
 pub mod laws;
 mod ranks;
+mod running;
+mod shown;
 
 pub use ends::{End, Outcome, RunFault};
+pub use running::{run, run_with};
