@@ -7,3 +7,4 @@ pub mod Writables
 pub mod RankResults
 pub mod Finished
 pub mod PiecesShown
+pub mod Ran

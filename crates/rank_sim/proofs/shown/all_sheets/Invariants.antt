@@ -1,5 +1,5 @@
-use Rattle.std.proofs.Common.{◌≡◌, List}
-use Rattle.std.specs.List.{flat_map, take}
+use Rattle.std.proofs.Common.{◌≡◌, List, take}
+use Rattle.std.specs.List.{flat_map}
 use Rattle.mm_text.specs.Reading.{File}
 use Rattle.peers.specs.Protocols.{Letter}
 use Rattle.model_defs.specs.Sheets.{step_sheets}
