@@ -8,3 +8,4 @@ pub mod RankResults
 pub mod Finished
 pub mod PiecesShown
 pub mod Ran
+pub mod Begun
