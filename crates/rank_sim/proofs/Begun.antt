@@ -1,5 +1,5 @@
 -- A run of a job that ended before the ranks were played.
-use Rattle.std.proofs.Common.{◌≡◌, ◌++◌, List, [], Err, None, Some, Option, Bool, true, false, refl, sym, ap, ◌∙◌}
+use Rattle.std.proofs.Common.{◌≡◌, ◌++◌, List, [], Err, None, Some, Option, refl, sym, ap}
 use Rattle.std.specs.Option.{option_map}
 use Rattle.std.proofs.lemmas.List.{append-nil}
 use Rattle.scalar_laws.specs.Semiring.{Semiring}
@@ -9,7 +9,7 @@ use Rattle.outside.specs.Letters.{no_letters}
 use Rattle.peers.specs.Protocols.{Letter}
 use Rattle.schedule.specs.declared.order.Order.{Order}
 use Rattle.schedule.specs.Orders.{deliveries}
-use Rattle.message_play.specs.Plays.{IsCourse, WireState}
+use Rattle.message_play.specs.Plays.{WireState}
 use Rattle.model_defs.specs.declared.job.Job.{Job}
 use Rattle.model_defs.specs.Machine.{job_protocol}
 use Rattle.rank_sim.specs.declared.ends.RunFault.TheVariants as fault

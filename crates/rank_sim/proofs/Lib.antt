@@ -9,3 +9,4 @@ pub mod Finished
 pub mod PiecesShown
 pub mod Ran
 pub mod Begun
+pub mod WeighedJobs

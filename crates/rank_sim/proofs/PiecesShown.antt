@@ -1,5 +1,5 @@
 -- What is shown of the ranks' pieces.
-use Rattle.std.proofs.Common.{◌≡◌, ℕ, ◌<◌, List, [], map, refl, sym, ap, ◌∙◌}
+use Rattle.std.proofs.Common.{◌≡◌, ℕ, List, [], ap, ◌∙◌}
 use Rattle.std.specs.Global.{Vec}
 use Rattle.scalar_laws.specs.Semiring.{Semiring}
 use Rattle.scalar_laws.specs.Conversions.{Conversions}

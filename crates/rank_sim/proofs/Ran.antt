@@ -1,12 +1,12 @@
 -- From a play of the ranks to a run of their job.
-use Rattle.std.proofs.Common.{◌≡◌, ℕ, ◌<◌, Bool, true, false, List, Result, Ok, Err, refl, sym, ap, ◌∙◌, subst}
+use Rattle.std.proofs.Common.{◌≡◌, true, List, Result, Ok, Err, refl, sym, ap, ◌∙◌}
 use Rattle.std.specs.Global.{Vec}
 use Rattle.scalar_laws.specs.Semiring.{Semiring}
 use Rattle.scalar_laws.specs.Conversions.{Conversions}
 use Rattle.mm_text.specs.Reading.{File}
 use Rattle.outside.specs.declared.name.Name.{Name}
-use Rattle.peers.specs.Peers.{PeerState, was_given}
-use Rattle.peers.specs.Protocols.{Letter, Protocol, firsts}
+use Rattle.peers.specs.Peers.{was_given}
+use Rattle.peers.specs.Protocols.{firsts}
 use Rattle.schedule.specs.declared.order.Order.{Order}
 use Rattle.schedule.specs.Orders.{Complete, Ending, ending}
 use Rattle.message_play.specs.declared.fault.PlayFault.{PlayFault}
@@ -23,7 +23,6 @@ use Rattle.rank_core.specs.declared.rank.Rank.{Rank}
 use Rattle.rank_core.specs.Ranks.{IsRank}
 use Rattle.rank_sim.specs.declared.ends.End.{End}
 use Rattle.rank_sim.specs.declared.ends.End.TheVariants as end
-use Rattle.rank_sim.specs.declared.ends.RunFault.{RunFault}
 use Rattle.rank_sim.specs.Faults.{fault_of}
 use Rattle.rank_sim.specs.Ranks.{AreFinished, IsRunInput}
 use Rattle.rank_sim.specs.Runs.{EndsAs, IsRan, ShowsEnd, gathered_values, is_complete, is_settled}

@@ -1,5 +1,5 @@
 -- The sheets of a job without letters can be written.
-use Rattle.std.proofs.Common.{◌≡◌, ℕ, zero, suc, ◌+◌, ◌*◌, ◌^◌, ◌<◌, ◌≤◌, ◌⊎◌, inl, inr, Bool, true, false, not, cond, ◌||◌, ◌&&◌, eqb, ltb, List, [], ◌∷◌, ◌++◌, map, filter, length, get_or, Option, None, Some, Ok, All, if◌then◌else◌, lt-ltb, refl, sym, ap, ◌∙◌, subst, arith, length-append, nat_lt}
+use Rattle.std.proofs.Common.{◌≡◌, ℕ, zero, suc, ◌+◌, ◌*◌, ◌<◌, ◌≤◌, inl, inr, Bool, true, false, not, cond, ◌||◌, ◌&&◌, eqb, ltb, List, [], ◌∷◌, ◌++◌, map, filter, length, get_or, Option, None, Some, Ok, All, if◌then◌else◌, lt-ltb, refl, sym, ap, ◌∙◌, subst, arith, length-append, nat_lt}
 use Rattle.std.specs.Prelude.{is_some}
 use Rattle.std.specs.List.{concat, flat_map, list_all}
 use Rattle.std.proofs.lemmas.Bool.{cases_lt, and_parts, ltb-true}
@@ -35,7 +35,7 @@ use Rattle.model_defs.specs.Laws.{IsFormed, has_cells}
 use Rattle.model_defs.specs.Limits.{IsSmallForm, most_columns, most_indices}
 use Rattle.model_defs.specs.Local.{IsLocalJob}
 use Rattle.model_defs.specs.Makers.{Maker, GivenVector, GivenParts, GivenMatrix, Made, gives_value, maker_of, makers, value_count}
-use Rattle.model_defs.specs.Maps.{is_mapped, layout_of, lists_of, map_at, no_map, size_of}
+use Rattle.model_defs.specs.Maps.{is_mapped, lists_of, map_at, no_map, size_of}
 use Rattle.model_defs.specs.Pieces.{Value}
 use Rattle.model_defs.specs.Plans.{width_of}
 use Rattle.model_defs.specs.Shapes.{is_dense, shape, shape_by}

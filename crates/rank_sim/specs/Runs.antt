@@ -1,12 +1,12 @@
 -- The run of all ranks of a job over a wire: the letters given, how it ends, and what it shows.
-use Rattle.std.specs.Prelude.{◌≡◌, ℕ, Bool, true, false, if◌then◌else◌, Result, Ok, Err, List, ◌++◌, None, Some}
+use Rattle.std.specs.Prelude.{◌≡◌, Bool, true, false, if◌then◌else◌, Result, Ok, Err, List, ◌++◌, None, Some}
 use Rattle.scalar_laws.specs.Semiring.{Semiring}
 use Rattle.scalar_laws.specs.Conversions.{Conversions}
 use Rattle.mm_text.specs.Reading.{File}
 use Rattle.outside.specs.declared.name.Name.{Name}
 use Rattle.outside.specs.Letters.{no_letters}
 use Rattle.outside.specs.MailRoom.{names_of}
-use Rattle.peers.specs.Protocols.{Letter, Protocol, firsts, flies}
+use Rattle.peers.specs.Protocols.{Letter, firsts, flies}
 use Rattle.schedule.specs.declared.order.Order.{Order}
 use Rattle.schedule.specs.Orders.{Complete, Ending, Left, Wrong, deliveries, ending}
 use Rattle.message_play.specs.Plays.{IsCourse, WireState}

@@ -18,6 +18,7 @@ ghost use Rattle.rank_sim.specs.Writable.{HasWritableSheets};
 
 use crate::ranks::new_ranks;
 use crate::shown::end_of;
+use crate::stated::stated_are_weighed;
 use crate::{End, RunFault};
 use message_play::{Played, play};
 use model_defs::{FileData, Job};
@@ -54,6 +55,7 @@ pub fn run<W: Wire>(
     ensures no_fault { is_wire_fault result ≡ false → W.faults wire.new ≡ W.faults wire.old }
     ensures fault { is_wire_fault result ≡ true → Rose (W.faults wire.old) (W.faults wire.new) }
 {
+    stated_are_weighed(job);
     run_with::<Weighed, W>(alloc, job, files, wire, order)
 }
 

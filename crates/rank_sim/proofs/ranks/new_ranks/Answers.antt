@@ -1,10 +1,9 @@
-use Rattle.std.proofs.Common.{◌≡◌, ◌∙◌, ◌<◌, ◌+◌, ℕ, List, ap, sym, map, length, arith, subst}
+use Rattle.std.proofs.Common.{◌≡◌, ◌∙◌, ◌<◌, ◌+◌, ℕ, ap, sym, map, length, arith, subst}
 use Rattle.mm_text.specs.Reading.{file_of}
 use Rattle.peers.specs.Peers.{fresh}
 use Rattle.message_play.specs.Plays.{StandsAt}
 use Rattle.model_defs.specs.declared.job.Job.{Job}
 use Rattle.model_defs.specs.Machine.{job_protocol}
-use Rattle.rank_core.specs.declared.rank.Rank.{Rank}
 use Rattle.rank_core.specs.Ranks.{IsRank, IsRankInput}
 use Rattle.rank_share.specs.Shares.{share}
 use Rattle.rank_sim.proofs.RankResults.{length-push, stands-push}

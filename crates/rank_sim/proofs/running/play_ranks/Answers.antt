@@ -1,14 +1,10 @@
-use Rattle.std.proofs.Common.{rules, ◌≡◌, ◌∙◌, List, Ok, Err, sym, ap, subst}
+use Rattle.std.proofs.Common.{rules, ◌∙◌, Ok, Err, sym, ap, subst}
 use contract.BorrowLft.{⊑_meet, ⊑_static}
 use Rattle.std.proofs.lemmas.Result.{err_from_is_err_and}
-use Rattle.mm_text.specs.Reading.{File}
-use Rattle.peers.specs.Protocols.{Protocol}
-use Rattle.message_play.specs.declared.fault.Played.TheVariants as played
 use Rattle.message_play.specs.Plays.{IsPlayed, wire_state}
 use Rattle.model_defs.specs.Machine.{job_protocol}
 use Rattle.rank_core.specs.Ranks.{IsRank}
 use Rattle.rank_sim.specs.Runs.{IsRan}
-use Rattle.rank_sim.specs.Ranks.{IsRunInput}
 use Rattle.rank_sim.proofs.Ran.{all-finished, ran-complete, ran-fault, ran-left}
 use Rattle.rank_sim.proofs.Writables.{writable-end}
 use Rattle.rank_sim.proofs.running.play_ranks.Goals as goal
