@@ -145,6 +145,16 @@ fn is_entry<A: DistSource<Weighed>>(source: &A, lid: u32, cells: &[Cell<Weighed>
     count == at
 }
 
+/// Whether the entries of a matrix are those of the cells.
+fn has_entries(a: &CrsMatrix<Weighed>, cells: &[Cell<Weighed>]) -> bool {
+    for lid in 0..a.row_map().len() {
+        if !is_entry(a, lid, cells) {
+            return false;
+        }
+    }
+    true
+}
+
 /// Whether a matrix under construction has the numbers of the cells, and no other place.
 fn is_fill(fill: &MatrixFill<Weighed>, cells: &[Cell<Weighed>]) -> bool {
     for row in 0..SIZE {
@@ -183,6 +193,7 @@ fn structures_and_matrices(rt: HostRuntime) -> Result<(), Fail> {
         assert!(rt; is_same_graph(&graph, case.matrix.graph()));
         assert!(rt; is_column_map(graph.col_map(), &case.domain, &case.cells));
         assert!(rt; is_matrix(&case.matrix, &case.cells));
+        assert!(rt; has_entries(&case.matrix, &case.cells));
     }
     Ok(())
 }
