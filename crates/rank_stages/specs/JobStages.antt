@@ -1,6 +1,7 @@
 -- Where the worker of a rank of any job stands: what it keeps, by the letters that were given to this rank alone. No other
 -- rank is spoken of, and no letter's numbers are asked to be those that its sender made.
-use Rattle.std.specs.Prelude.{◌≡◌, ℕ, suc, ◌+◌, ◌<◌, ◌≤◌, ◌^◌, ◌==◌, ◌||◌, Bool, true, if◌then◌else◌, List, length, Option, None, Some}
+use Rattle.std.specs.Prelude.{◌≡◌, ℕ, suc, ◌+◌, ◌<◌, ◌≤◌, ◌^◌, ◌==◌, ◌||◌, Bool, true, if◌then◌else◌, List, length, Option, None, Some, slice_get}
+use Rattle.std.specs.Option.{option_map}
 use Rattle.scalar_laws.specs.Semiring.{Semiring}
 use Rattle.scalar_laws.specs.Conversions.{Conversions}
 use Rattle.tables.specs.Indices.{stands}
@@ -23,12 +24,11 @@ use Rattle.model_defs.specs.Plans.{lacking, remote}
 use Rattle.model_defs.specs.Letters.{asked}
 use Rattle.model_defs.specs.Stages.{first_pieces, gathered_after}
 use Rattle.model_defs.specs.Machine.{arrivals, job_protocol, piece}
-use Rattle.job_phases.specs.Laws.{phase_at}
 use Rattle.rank_stages.specs.Views.{View}
 
--- what a phase is about
-abbrev pub about_at : Job → ℕ → About
-about_at job n = (phase_at job n).about
+-- what a phase is about, if the job has a phase of this number
+abbrev pub about_at : Job → ℕ → Option About
+about_at job n = option_map (λ phase. phase.about) (slice_get (phases job) n)
 
 -- the name of the letter of a phase from a rank to another one
 abbrev pub letter_name : ℕ → ℕ → ℕ → Name
@@ -70,29 +70,29 @@ HasValues R F job files values s = (k : ℕ) → k < value_count job → IsMade 
 -- of each map that is registered the owners of the indices whose home it is, as far as their owners' letters came
 abbrev pub HasDirectories : Job → (ℕ → ℕ → Option ℕ) → Stage → Type 0
 HasDirectories job directory s =
-    (n m g : ℕ) → about_at job n ≡ RegisterMap m → n < s.entered → is_home_rank job m s.rank g ≡ true
+    (n m g : ℕ) → about_at job n ≡ Some (RegisterMap m) → n < s.entered → is_home_rank job m s.rank g ≡ true
     → directory m g ≡ heard_owner s n (owner (layout_of job m) g)
 
 -- what each rank asked it
 abbrev pub HasQuestions : Job → List File → (Plan → ℕ → List ℕ) → Stage → Type 0
 HasQuestions job files questions s =
-    (n q : ℕ) (plan : Plan) → about_at job n ≡ AskOwners plan → n < s.entered → has_heard s n q ≡ true
+    (n q : ℕ) (plan : Plan) → about_at job n ≡ Some (AskOwners plan) → n < s.entered → has_heard s n q ≡ true
     → questions plan q ≡ asked job files plan q s.rank
 
 -- the owners of the indices that it asked a rank, once this rank answered
 abbrev pub HasOwners : Job → List File → (Plan → ℕ → Option ℕ) → Stage → Type 0
 HasOwners job files owners s =
-    (n q g : ℕ) (plan : Plan) → about_at job n ≡ TellOwners plan → n < s.entered → has_heard s n q ≡ true
+    (n q g : ℕ) (plan : Plan) → about_at job n ≡ Some (TellOwners plan) → n < s.entered → has_heard s n q ≡ true
     → stands g (asked job files plan s.rank q) ≡ true → owners plan g ≡ owner (layout_of job (owner_map job plan)) g
 
 -- of a plan that is shared what it lacks of each rank
 abbrev pub HasOwnLists : Job → List File → (Plan → ℕ → List ℕ) → Stage → Type 0
-HasOwnLists job files own s = (n q : ℕ) (plan : Plan) → about_at job n ≡ SharePlan plan → n < s.entered → own plan q ≡ remote job files plan s.rank q
+HasOwnLists job files own s = (n q : ℕ) (plan : Plan) → about_at job n ≡ Some (SharePlan plan) → n < s.entered → own plan q ≡ remote job files plan s.rank q
 
 -- and what each rank lacks of it, once that rank told it
 abbrev pub HasToldLists : Job → List File → (Plan → ℕ → List ℕ) → Stage → Type 0
 HasToldLists job files told s =
-    (n q : ℕ) (plan : Plan) → about_at job n ≡ SharePlan plan → was_given s.absorbed (letter_name n q s.rank) ≡ true
+    (n q : ℕ) (plan : Plan) → about_at job n ≡ Some (SharePlan plan) → was_given s.absorbed (letter_name n q s.rank) ≡ true
     → told plan q ≡ remote job files plan q s.rank
 
 -- of a value that is being made what it gathered in each transfer that was begun

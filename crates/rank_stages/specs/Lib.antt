@@ -1,3 +1,5 @@
 pub mod Views
 pub mod JobStages
 pub mod StageLaws
+pub mod LetterLaws
+pub mod OwnerLaws
