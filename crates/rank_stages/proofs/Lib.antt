@@ -1,2 +1,4 @@
 pub mod Stepping
 pub mod PhaseLetters
+pub mod KnownPlans
+pub mod Owners

@@ -1,5 +1,6 @@
 //! The laws of the stages of a rank. Each function has an empty body: what it proves is its contract.
 ghost use Rattle.rank_stages.specs.LetterLaws.{PlansComeFromAll, PlansGoToAll};
+ghost use Rattle.rank_stages.specs.OwnerLaws.{AnswersAreOwners, DirectoriesAreWhole, HomesAreOne, IndicesAreWithin, IndicesHaveOneOwner, ListsAreTold, OwnersAreKnown, QuestionsAreWhole, RemotesAreByOwners, UniformMapsAreByRule};
 ghost use Rattle.rank_stages.specs.StageLaws.{GatheredStays, LettersAreCombined, MadeValuesStay, RanksBegin};
 
 use scalar_laws::Scalar;
@@ -21,4 +22,29 @@ pub fn letters_are_combined<S: Scalar>()
 pub fn plans_go_to_all()
     ensures names { PlansGoToAll }
     ensures each { PlansComeFromAll }
+{}
+
+/// The plans of a valid job join maps in which an index has one owner at most, and their indices are within these maps. Each
+/// index has one home, whose directory keeps its owner.
+pub fn plans_are_sound()
+    ensures one_owner { IndicesHaveOneOwner }
+    ensures within { IndicesAreWithin }
+    ensures one_home { HomesAreOne }
+{}
+
+/// What one rank lacks by a plan and another one owns follows from the owners alone, which in a uniform map are known by
+/// arithmetic.
+pub fn remotes_are_by_owners()
+    ensures remotes { RemotesAreByOwners }
+    ensures uniform { UniformMapsAreByRule }
+{}
+
+/// What a rank of a valid job knows once the phase was left that tells it: the owners of the indices whose home it is, what
+/// each rank asked it, the owner of each index that it lacks, and what each other rank lacks of it (`Tpetra::Directory`).
+pub fn owners_are_learnt<S: Scalar>()
+    ensures directories { DirectoriesAreWhole S.semiring S.conversions }
+    ensures questions { QuestionsAreWhole S.semiring S.conversions }
+    ensures answers { AnswersAreOwners S.semiring S.conversions }
+    ensures owners { OwnersAreKnown S.semiring S.conversions }
+    ensures lists { ListsAreTold S.semiring S.conversions }
 {}
