@@ -3,3 +3,4 @@ pub mod JobStages
 pub mod StageLaws
 pub mod LetterLaws
 pub mod OwnerLaws
+pub mod PhaseOrder

@@ -1,7 +1,8 @@
 -- How a rank begins, and what one letter more changes.
-use Rattle.std.specs.Prelude.{◌≡◌, ℕ, suc, ◌+◌, ◌<◌, ◌≤◌, ◌^◌, ◌↔◌, List, [], ◌∷◌, ◌++◌, length, Some}
+use Rattle.std.specs.Prelude.{◌≡◌, ℕ, suc, ◌+◌, ◌<◌, ◌≤◌, ◌^◌, ◌↔◌, List, [], ◌∷◌, ◌++◌, length, Option, Some}
 use Rattle.scalar_laws.specs.Semiring.{Semiring}
 use Rattle.scalar_laws.specs.Conversions.{Conversions}
+use Rattle.tables.specs.Tables.{Table}
 use Rattle.mm_text.specs.Reading.{File}
 use Rattle.combine_modes.specs.Modes.{after_one}
 use Rattle.peers.specs.Protocols.{Letter}
@@ -40,3 +41,16 @@ abbrev pub MadeValuesStay : {S : Type 0} → Semiring S → Conversions S → Ty
 MadeValuesStay R F =
     (job : Job) (files : List File) (p k entered : ℕ) (g : List Letter) (l : Letter) → k < value_count job → IsMade job entered k → entered ≤ suc l.0.phase
     → piece R F job files p k (g ++ l ∷ []) ≡ piece R F job files p k g
+
+-- A rank of a job without letters: once it entered the end it has all its pieces.
+pub record IsLocalStage {S : Type 0} (R : Semiring S) (F : Conversions S) (job : Job) (files : List File) (values : ℕ → Option (Table S)) (s : Stage) : Type 0 where
+  pub protocol : s.protocol ≡ job_protocol R F job files
+  pub phases : s.phases ≡ 0
+  pub within : s.rank < job.ranks
+  pub made : 0 < s.entered → (k : ℕ) → k < value_count job → values k ≡ Some (piece R F job files s.rank k [])
+
+-- Where a rank of such a job stands is the case without phases.
+abbrev pub LocalRanksStand : {S : Type 0} → Semiring S → Conversions S → Type 0
+LocalRanksStand {S} R F =
+    (job : Job) (files : List File) (view : View S) (s : Stage) → IsLocalJob job
+    → IsJobStage R F job files view s ↔ IsLocalStage R F job files view.values s

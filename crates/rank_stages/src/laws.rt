@@ -1,7 +1,7 @@
 //! The laws of the stages of a rank. Each function has an empty body: what it proves is its contract.
 ghost use Rattle.rank_stages.specs.LetterLaws.{PlansComeFromAll, PlansGoToAll};
 ghost use Rattle.rank_stages.specs.OwnerLaws.{AnswersAreOwners, DirectoriesAreWhole, HomesAreOne, IndicesAreWithin, IndicesHaveOneOwner, ListsAreTold, OwnersAreKnown, QuestionsAreWhole, RemotesAreByOwners, UniformMapsAreByRule};
-ghost use Rattle.rank_stages.specs.StageLaws.{GatheredStays, LettersAreCombined, MadeValuesStay, RanksBegin};
+ghost use Rattle.rank_stages.specs.StageLaws.{GatheredStays, LettersAreCombined, LocalRanksStand, MadeValuesStay, RanksBegin};
 
 use scalar_laws::Scalar;
 
@@ -47,4 +47,9 @@ pub fn owners_are_learnt<S: Scalar>()
     ensures answers { AnswersAreOwners S.semiring S.conversions }
     ensures owners { OwnersAreKnown S.semiring S.conversions }
     ensures lists { ListsAreTold S.semiring S.conversions }
+{}
+
+/// A rank of a job without letters stands where it entered no phase, or has all its pieces: the case without phases.
+pub fn local_ranks_stand<S: Scalar>()
+    ensures { LocalRanksStand S.semiring S.conversions }
 {}
