@@ -4,3 +4,5 @@ pub mod KnownPlans
 pub mod Owners
 pub mod LocalStages
 pub mod Once
+pub mod SentOnce
+pub mod Prepared

@@ -55,4 +55,5 @@ PhasesArePrepared =
 -- A transfer's numbers are sent once its plan was made.
 abbrev pub TransfersHavePlans : Type 0
 TransfersHavePlans =
-    (job : Job) (k t n : ℕ) → send_phase job k t ≡ Some n → IsMadePlan job n (transfer_at job k t).plan
+    (job : Job) (files : List File) (k t n : ℕ) → IsValid job → IsFitting job files → send_phase job k t ≡ Some n
+    → IsMadePlan job n (transfer_at job k t).plan

@@ -1,6 +1,7 @@
 //! The laws of the stages of a rank. Each function has an empty body: what it proves is its contract.
 ghost use Rattle.rank_stages.specs.LetterLaws.{PlansComeFromAll, PlansGoToAll};
 ghost use Rattle.rank_stages.specs.OwnerLaws.{AnswersAreOwners, DirectoriesAreWhole, HomesAreOne, IndicesAreWithin, IndicesHaveOneOwner, ListsAreTold, OwnersAreKnown, QuestionsAreWhole, RemotesAreByOwners, UniformMapsAreByRule};
+ghost use Rattle.rank_stages.specs.PhaseOrder.{PhasesArePrepared, PlansAreMadeOnce, TransfersAreSentOnce, TransfersHavePlans};
 ghost use Rattle.rank_stages.specs.StageLaws.{GatheredStays, LettersAreCombined, LocalRanksStand, MadeValuesStay, RanksBegin};
 
 use scalar_laws::Scalar;
@@ -52,4 +53,18 @@ pub fn owners_are_learnt<S: Scalar>()
 /// A rank of a job without letters stands where it entered no phase, or has all its pieces: the case without phases.
 pub fn local_ranks_stand<S: Scalar>()
     ensures { LocalRanksStand S.semiring S.conversions }
+{}
+
+/// Each thing is done in one phase of a job: a map is registered once, a plan is made once, and the numbers of a transfer are
+/// sent once.
+pub fn phases_are_once()
+    ensures plans { PlansAreMadeOnce }
+    ensures transfers { TransfersAreSentOnce }
+{}
+
+/// Each phase comes after those that it needs: owners are asked for once their map is registered, a plan is made once the
+/// owners are known, and a transfer's numbers are sent once its plan was made.
+pub fn phases_are_prepared()
+    ensures phases { PhasesArePrepared }
+    ensures transfers { TransfersHavePlans }
 {}
