@@ -6,3 +6,5 @@ pub mod LocalStages
 pub mod Once
 pub mod SentOnce
 pub mod Prepared
+pub mod SendPhases
+pub mod Absorbing

@@ -25,11 +25,11 @@ use Rattle.model_defs.specs.Stages.{transfer_at}
 use Rattle.model_defs.specs.Valid.{IsValid}
 use Rattle.model_defs.proofs.Filters.{both, later}
 use Rattle.model_defs.proofs.Formed.{either}
-use Rattle.model_defs.proofs.Names.{stage-is}
 use Rattle.rank_stages.specs.JobStages.{about_at}
 use Rattle.rank_stages.specs.PhaseOrder.{IsEarlierAbout, IsMadePlan, IsPrepared, PhasesArePrepared, TransfersHavePlans}
 use Rattle.rank_stages.proofs.KnownPlans.{Each, IsKnownPlan, IsKnownAct, acts-known}
 use Rattle.rank_stages.proofs.Once.{same-self, shared-owners}
+use Rattle.rank_stages.proofs.SendPhases.{send-phase-is}
 
 pub same-is : (a b : Plan) → same_plan a b ≡ true → a ≡ b
 same-is (ImportPlan s t) (ImportPlan u v) e = let p = both (eqb s u) (eqb t v) e in λ i. ImportPlan (eqb-true s u p.0 i) (eqb-true t v p.1 i)
@@ -306,27 +306,9 @@ phases_are_prepared = λ job files n about valid fit e.
     by job n (SharePlan plan) k h = λ u. earlier job n (TellOwners plan) (h u)
     by job n (SendNumbers stage) k h = tt
 
-sent-at : (k t i n : ℕ) (xs : List Phase) → position_from (sends k t) i xs ≡ Some n → (m : ℕ) × (n ≡ i + m) × (x : Phase) × (slice_get xs m ≡ Some x) × (sends k t x ≡ true)
-sent-at k t i n [] e = absurd (let bad : ⊥ = cc in bad)
-sent-at k t i n (x ∷ xs) e = by (sends k t x) refl e (sent-at k t (i + 1) n xs)
-  where
-    by : (b : Bool) → sends k t x ≡ b → cond b (Some i) (position_from (sends k t) (i + 1) xs) ≡ Some n
-        → (position_from (sends k t) (i + 1) xs ≡ Some n → (m : ℕ) × (n ≡ (i + 1) + m) × (y : Phase) × (slice_get xs m ≡ Some y) × (sends k t y ≡ true))
-        → (m : ℕ) × (n ≡ i + m) × (y : Phase) × (slice_get (x ∷ xs) m ≡ Some y) × (sends k t y ≡ true)
-    by true f e rest = (0, (let same : i ≡ n = cc in omega arith), x, refl, f)
-    by false f e rest = let r = rest e in (suc r.0, omega (arith, r.1), r.2, r.3, r.4)
-
 pub transfers_have_plans : TransfersHavePlans
 transfers_have_plans = λ job files k t n valid fit e.
-    let s = sent-at k t 0 n (phases job) e in
-    let same : n ≡ s.0 = omega (arith, s.1) in
-    let parts = both (eqb s.2.value k) _ s.4 in
-    let about = stage-is t s.2.about parts.1 in
-    let value = eqb-true s.2.value k parts.0 in
-    let found : IsPreparedIn job (take s.0 (phases job)) s.2.value s.2.about = prepared-at job [] (phases job) s.0 s.2 (all-prepared job files valid fit) s.3 in
-    let here = subst (λ v. IsPreparedIn job (take s.0 (phases job)) v (SendNumbers t)) value (subst (IsPreparedIn job (take s.0 (phases job)) s.2.value) about found) in
-    record {
-      made = here.0;
-      shared = here.1;
-      earlier = subst (λ m. IsEarlierAbout job m (SharePlan here.0)) (sym same) (earlier job s.0 (SharePlan here.0) here.2);
-    }
+    let s = send-phase-is job k t n e in
+    let found = prepared-at job [] (phases job) n s.phase (all-prepared job files valid fit) s.is in
+    let here = subst (λ v. IsPreparedIn job (take n (phases job)) v (SendNumbers t)) s.value (subst (IsPreparedIn job (take n (phases job)) s.phase.value) s.about found) in
+    record { made = here.0; shared = here.1; earlier = earlier job n (SharePlan here.0) here.2 }

@@ -1,6 +1,6 @@
 -- Where the worker of a rank of any job stands: what it keeps, by the letters that were given to this rank alone. No other
 -- rank is spoken of, and no letter's numbers are asked to be those that its sender made.
-use Rattle.std.specs.Prelude.{◌≡◌, ℕ, suc, ◌+◌, ◌<◌, ◌≤◌, ◌^◌, ◌==◌, ◌||◌, Bool, true, if◌then◌else◌, List, length, Option, None, Some, slice_get}
+use Rattle.std.specs.Prelude.{◌≡◌, ℕ, suc, ◌+◌, ◌<◌, ◌≤◌, ◌^◌, ◌==◌, ◌||◌, Bool, true, if◌then◌else◌, List, [], length, Option, None, Some, slice_get}
 use Rattle.std.specs.Option.{option_map}
 use Rattle.scalar_laws.specs.Semiring.{Semiring}
 use Rattle.scalar_laws.specs.Conversions.{Conversions}
@@ -23,7 +23,7 @@ use Rattle.model_defs.specs.Phases.{phases, send_phase}
 use Rattle.model_defs.specs.Plans.{lacking, remote}
 use Rattle.model_defs.specs.Letters.{asked}
 use Rattle.model_defs.specs.Stages.{first_pieces, gathered_after}
-use Rattle.model_defs.specs.Machine.{arrivals, job_protocol, piece}
+use Rattle.model_defs.specs.Machine.{arrivals, job_protocol, letters_of, piece}
 use Rattle.rank_stages.specs.Views.{View}
 
 -- what a phase is about, if the job has a phase of this number
@@ -109,6 +109,8 @@ pub record IsJobStage {S : Type 0} (R : Semiring S) (F : Conversions S) (job : J
   pub within : s.rank < job.ranks
   -- all letters to the rank of the phases that were left were absorbed
   pub passed : (n : ℕ) → n < s.entered → HasAbsorbed s n
+  -- none of the phases that were not entered was
+  pub later : (n : ℕ) → n < s.phases → s.entered ≤ n → letters_of n s.rank s.absorbed ≡ []
   pub values : HasValues R F job files view.values s
   pub directory : HasDirectories job view.directory s
   pub asked : HasQuestions job files view.asked s

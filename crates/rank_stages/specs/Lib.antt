@@ -4,3 +4,4 @@ pub mod StageLaws
 pub mod LetterLaws
 pub mod OwnerLaws
 pub mod PhaseOrder
+pub mod AbsorbLaws

@@ -1,4 +1,5 @@
 //! The laws of the stages of a rank. Each function has an empty body: what it proves is its contract.
+ghost use Rattle.rank_stages.specs.AbsorbLaws.{AnswersAreAbsorbed, ListsAreAbsorbed, NumbersAreAbsorbed, QuestionsAreAbsorbed, RegistrationsAreAbsorbed};
 ghost use Rattle.rank_stages.specs.LetterLaws.{PlansComeFromAll, PlansGoToAll};
 ghost use Rattle.rank_stages.specs.OwnerLaws.{AnswersAreOwners, DirectoriesAreWhole, HomesAreOne, IndicesAreWithin, IndicesHaveOneOwner, ListsAreTold, OwnersAreKnown, QuestionsAreWhole, RemotesAreByOwners, UniformMapsAreByRule};
 ghost use Rattle.rank_stages.specs.PhaseOrder.{PhasesArePrepared, PlansAreMadeOnce, TransfersAreSentOnce, TransfersHavePlans};
@@ -67,4 +68,14 @@ pub fn phases_are_once()
 pub fn phases_are_prepared()
     ensures phases { PhasesArePrepared }
     ensures transfers { TransfersHavePlans }
+{}
+
+/// A letter that is absorbed changes one thing that its rank keeps, by what the letter's phase is about: the directory of a
+/// map, what a rank asked, the owners that are known, what another rank lacks, or what was gathered in a transfer.
+pub fn letters_are_absorbed<S: Scalar>()
+    ensures registrations { RegistrationsAreAbsorbed S.semiring S.conversions }
+    ensures questions { QuestionsAreAbsorbed S.semiring S.conversions }
+    ensures answers { AnswersAreAbsorbed S.semiring S.conversions }
+    ensures lists { ListsAreAbsorbed S.semiring S.conversions }
+    ensures numbers { NumbersAreAbsorbed S.semiring S.conversions }
 {}
