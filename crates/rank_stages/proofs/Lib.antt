@@ -8,3 +8,4 @@ pub mod SentOnce
 pub mod Prepared
 pub mod SendPhases
 pub mod Absorbing
+pub mod Entering

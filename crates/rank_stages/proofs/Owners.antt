@@ -33,9 +33,9 @@ use Rattle.model_defs.proofs.Bounds.{maps-are-layouts}
 use Rattle.model_defs.proofs.Filters.{filter-ext, later}
 use Rattle.model_defs.proofs.KnownShapes.{ranked}
 use Rattle.rank_stages.specs.Views.{View}
-use Rattle.rank_stages.specs.JobStages.{IsJobStage, about_at, has_heard, heard_owner, letter_name}
+use Rattle.rank_stages.specs.JobStages.{HasLeft, IsJobStage, about_at, has_heard, heard_owner, letter_name}
 use Rattle.rank_stages.specs.LetterLaws.{sends_numbers}
-use Rattle.rank_stages.specs.OwnerLaws.{map_about, plan_about, is_rank, HasOneHome, IndicesHaveOneOwner, IndicesAreWithin, HomesAreOne, UniformMapsAreByRule, RemotesAreByOwners, DirectoriesAreWhole, QuestionsAreWhole, AnswersAreOwners, OwnersAreKnown, ListsAreTold}
+use Rattle.rank_stages.specs.OwnerLaws.{map_about, plan_about, is_rank, HasOneHome, IndicesHaveOneOwner, IndicesAreWithin, HomesAreOne, UniformMapsAreByRule, RemotesAreByOwners, DirectoriesAreWhole, QuestionsAreWhole, AnswersAreOwners, OwnersAreKnown, ListsAreTold, PhasesAreLeft, EarlierPhasesAreLeft}
 use Rattle.rank_stages.proofs.PhaseLetters.{is-named}
 use Rattle.rank_stages.proofs.KnownPlans.{IsKnownAbout, IsKnownPlan, about-is-known, owner-known}
 
@@ -145,19 +145,19 @@ remotes_are_by_owners = λ job files plan p q one. remote-is job files plan q on
 
 module _ {S : Type 0} (R : Semiring S) (F : Conversions S) (job : Job) (files : List File) (view : View S) (s : Stage) (stands_so : IsJobStage R F job files view s) where
   -- all were heard
-  pub heard-all : (n q : ℕ) (about : About) → about_at job n ≡ Some about → sends_numbers about ≡ false → suc n < s.entered → q < job.ranks → has_heard s n q ≡ true
+  pub heard-all : (n q : ℕ) (about : About) → about_at job n ≡ Some about → sends_numbers about ≡ false → HasLeft s n → q < job.ranks → has_heard s n q ≡ true
   heard-all n q about at plain left l = by (eqb q s.rank) refl
     where
       by : (b : Bool) → eqb q s.rank ≡ b → b || was_given s.absorbed (letter_name n q s.rank) ≡ true
       by true e = refl
       by false e =
-          stands_so.passed (suc n) left (letter_name n q s.rank)
+          left.absorbed (letter_name n q s.rank)
           (ap (λ p. stands_in p.names (letter_name n q s.rank)) stands_so.protocol ∙ is-named job files n s.rank about at plain stands_so.within q l e) refl (omega arith)
 
   module _ (valid : IsValid job) where
-    pub directory-whole : (n m g : ℕ) → about_at job n ≡ Some (RegisterMap m) → suc n < s.entered → is_home_rank job m s.rank g ≡ true → view.directory m g ≡ owner (layout_of job m) g
+    pub directory-whole : (n m g : ℕ) → about_at job n ≡ Some (RegisterMap m) → HasLeft s n → is_home_rank job m s.rank g ≡ true → view.directory m g ≡ owner (layout_of job m) g
     directory-whole n m g at left is =
-        stands_so.directory n m g at (omega (arith, left)) is ∙ by (owner (layout_of job m) g) refl
+        stands_so.directory n m g at left.entered is ∙ by (owner (layout_of job m) g) refl
       where
         known : IsOwnerMap job m
         known = indices_have_one_owner job n m (RegisterMap m) valid at refl
@@ -166,10 +166,10 @@ module _ {S : Type 0} (R : Semiring S) (F : Conversions S) (job : Job) (files : 
         by None e = refl
         by (Some q) e = ap (λ b. cond b (Some q) None) (heard-all n q (RegisterMap m) at refl left (ranked job valid m known.0 g q e))
 
-    pub owner-found : (n g : ℕ) (plan : Plan) → about_at job n ≡ Some (TellOwners plan) → suc n < s.entered → stands g (lacking job files plan s.rank) ≡ true
+    pub owner-found : (n g : ℕ) (plan : Plan) → about_at job n ≡ Some (TellOwners plan) → HasLeft s n → stands g (lacking job files plan s.rank) ≡ true
         → view.owners plan g ≡ owner (layout_of job (owner_map job plan)) g
     owner-found n g plan at left lacks =
-        stands_so.owners n at_home.home g plan at (omega (arith, left)) (heard-all n at_home.home (TellOwners plan) at refl left at_home.below)
+        stands_so.owners n at_home.home g plan at left.entered (heard-all n at_home.home (TellOwners plan) at refl left at_home.below)
         (stands-filter g (is_home_rank job (owner_map job plan) at_home.home) (lacking job files plan s.rank) ∙ both_true _ _ lacks at_home.is_home)
       where
         within : g < size_of job (owner_map job plan)
@@ -178,10 +178,10 @@ module _ {S : Type 0} (R : Semiring S) (F : Conversions S) (job : Job) (files : 
         at_home : HasOneHome job (owner_map job plan) g
         at_home = one-home job (owner_map job plan) g valid within
 
-  pub questions-whole : (n q : ℕ) (plan : Plan) → about_at job n ≡ Some (AskOwners plan) → suc n < s.entered → q < job.ranks → view.asked plan q ≡ asked job files plan q s.rank
-  questions-whole n q plan at left l = stands_so.asked n q plan at (omega (arith, left)) (heard-all n q (AskOwners plan) at refl left l)
+  pub questions-whole : (n q : ℕ) (plan : Plan) → about_at job n ≡ Some (AskOwners plan) → HasLeft s n → q < job.ranks → view.asked plan q ≡ asked job files plan q s.rank
+  questions-whole n q plan at left l = stands_so.asked n q plan at left.entered (heard-all n q (AskOwners plan) at refl left l)
 
-  pub lists-told : (n q : ℕ) (plan : Plan) → about_at job n ≡ Some (SharePlan plan) → suc n < s.entered → q < job.ranks → eqb q s.rank ≡ false → view.told plan q ≡ remote job files plan q s.rank
+  pub lists-told : (n q : ℕ) (plan : Plan) → about_at job n ≡ Some (SharePlan plan) → HasLeft s n → q < job.ranks → eqb q s.rank ≡ false → view.told plan q ≡ remote job files plan q s.rank
   lists-told n q plan at left l other =
       stands_so.told n q plan at (sym (ap (λ b. b || was_given s.absorbed (letter_name n q s.rank)) other) ∙ heard-all n q (SharePlan plan) at refl left l)
 
@@ -190,8 +190,8 @@ module _ {S : Type 0} (R : Semiring S) (F : Conversions S) (job : Job) (files : 
   map-same f h (x ∷ xs) same =
       λ i. same x (ap (λ b. b || stands x xs) (eq-eqb x x refl)) i ∷ map-same f h xs (λ g e. same g (later (eqb x g) _ e)) i
 
-  pub answers-are : (valid : IsValid job) (i j k q : ℕ) (plan : Plan) → about_at job i ≡ Some (RegisterMap (owner_map job plan)) → suc i < s.entered
-      → about_at job j ≡ Some (AskOwners plan) → suc j < s.entered → q < job.ranks
+  pub answers-are : (valid : IsValid job) (i j k q : ℕ) (plan : Plan) → about_at job i ≡ Some (RegisterMap (owner_map job plan)) → HasLeft s i
+      → about_at job j ≡ Some (AskOwners plan) → HasLeft s j → q < job.ranks
       → entries_about job files k (TellOwners plan) s.rank q ≡ map (λ g. unwrap_or (view.directory (owner_map job plan) g) no_owner) (view.asked plan q)
   answers-are valid i j k q plan at left at_asked left_asked l =
       map-same (owner_word job files (owner_map job plan)) (λ g. unwrap_or (view.directory (owner_map job plan) g) no_owner) (asked job files plan q s.rank) same
@@ -199,6 +199,12 @@ module _ {S : Type 0} (R : Semiring S) (F : Conversions S) (job : Job) (files : 
     where
       same : (g : ℕ) → stands g (asked job files plan q s.rank) ≡ true → owner_word job files (owner_map job plan) g ≡ unwrap_or (view.directory (owner_map job plan) g) no_owner
       same g e = ap (λ o. unwrap_or o no_owner) (sym (directory-whole valid i (owner_map job plan) g at left (filtered (is_home_rank job (owner_map job plan) s.rank) g (lacking job files plan q) e).1))
+
+pub phases_are_left : PhasesAreLeft
+phases_are_left = λ s n phase all known less. record { entered = omega (arith, known, less); absorbed = λ m named to before. all m named to (omega (arith, before, less)) }
+
+pub earlier_phases_are_left : {S : Type 0} (R : Semiring S) (F : Conversions S) → EarlierPhasesAreLeft R F
+earlier_phases_are_left R F = λ job files view s n so less. record { entered = omega (arith, less); absorbed = so.passed (suc n) less }
 
 pub directories_are_whole : {S : Type 0} (R : Semiring S) (F : Conversions S) → DirectoriesAreWhole R F
 directories_are_whole R F = λ job files view s n m g valid so at left is. directory-whole R F job files view s so valid n m g at left is

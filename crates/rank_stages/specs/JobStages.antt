@@ -38,6 +38,11 @@ letter_name phase from to = record { phase = phase; from = from; to = to }
 abbrev pub has_heard : Stage → ℕ → ℕ → Bool
 has_heard s n q = (q == s.rank) || was_given s.absorbed (letter_name n q s.rank)
 
+-- phase n was entered, and all letters to the rank of it and of the phases before it were absorbed
+pub record HasLeft (s : Stage) (n : ℕ) : Type 0 where
+  pub entered : n < s.entered
+  pub absorbed : HasAbsorbed s (suc n)
+
 -- an owner, where its registration was heard
 abbrev pub heard_owner : Stage → ℕ → Option ℕ → Option ℕ
 heard_owner s n None = None

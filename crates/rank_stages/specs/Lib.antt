@@ -5,3 +5,4 @@ pub mod LetterLaws
 pub mod OwnerLaws
 pub mod PhaseOrder
 pub mod AbsorbLaws
+pub mod EnterLaws

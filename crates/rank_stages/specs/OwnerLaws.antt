@@ -1,5 +1,5 @@
 -- How a rank learns the owners of indices, and what each plan joins: of the phases of a valid job, whatever the wire gives.
-use Rattle.std.specs.Prelude.{◌≡◌, ℕ, suc, ◌<◌, ◌==◌, Bool, true, false, List, map, filter, Option, None, Some}
+use Rattle.std.specs.Prelude.{◌≡◌, ℕ, suc, ◌<◌, ◌≤◌, ◌==◌, Bool, true, false, List, map, filter, Option, None, Some}
 use Rattle.std.specs.Option.{unwrap_or}
 use Rattle.scalar_laws.specs.Semiring.{Semiring}
 use Rattle.scalar_laws.specs.Conversions.{Conversions}
@@ -7,7 +7,7 @@ use Rattle.tables.specs.Indices.{stands}
 use Rattle.map_core.specs.Layouts.{IsOneToOne, owner}
 use Rattle.map_core.specs.Uniform.{uniform_layout}
 use Rattle.mm_text.specs.Reading.{File}
-use Rattle.rank_phases.specs.Stages.{Stage}
+use Rattle.rank_phases.specs.Stages.{Stage, HasAbsorbed}
 use Rattle.model_defs.specs.declared.job.Job.{Job}
 use Rattle.model_defs.specs.declared.phase.About.{About}
 use Rattle.model_defs.specs.declared.phase.About.TheVariants.{RegisterMap, AskOwners, TellOwners, SharePlan, SendNumbers}
@@ -18,7 +18,7 @@ use Rattle.model_defs.specs.Plans.{rank_list_by, lacking, remote}
 use Rattle.model_defs.specs.Letters.{asked, entries_about, no_owner}
 use Rattle.model_defs.specs.Valid.{IsValid, IsOwnerMap}
 use Rattle.rank_stages.specs.Views.{View}
-use Rattle.rank_stages.specs.JobStages.{IsJobStage, about_at}
+use Rattle.rank_stages.specs.JobStages.{HasLeft, IsJobStage, about_at}
 
 -- the map whose owners a phase is about, if it is about owners
 abbrev pub map_about : Job → About → Option ℕ
@@ -71,26 +71,35 @@ RemotesAreByOwners =
     (job : Job) (files : List File) (plan : Plan) (p q : ℕ) → IsOneToOne (layout_of job (owner_map job plan))
     → remote job files plan p q ≡ filter (λ g. is_rank q (owner (layout_of job (owner_map job plan)) g)) (lacking job files plan p)
 
+-- A phase is left where all letters of the phases before a later one were absorbed, as whoever calls a worker assures it.
+abbrev pub PhasesAreLeft : Type 0
+PhasesAreLeft = (s : Stage) (n phase : ℕ) → HasAbsorbed s phase → phase ≤ s.entered → n < phase → HasLeft s n
+
 module _ {S : Type 0} (R : Semiring S) (F : Conversions S) where
+  -- So are the phases before the one that a rank is in.
+  abbrev pub EarlierPhasesAreLeft : Type 0
+  EarlierPhasesAreLeft =
+      (job : Job) (files : List File) (view : View S) (s : Stage) (n : ℕ) → IsJobStage R F job files view s → suc n < s.entered → HasLeft s n
+
   -- Once the registrations of a map are left, a rank's directory has the owners of all indices whose home it is.
   abbrev pub DirectoriesAreWhole : Type 0
   DirectoriesAreWhole =
       (job : Job) (files : List File) (view : View S) (s : Stage) (n m g : ℕ) → IsValid job → IsJobStage R F job files view s
-      → about_at job n ≡ Some (RegisterMap m) → suc n < s.entered → is_home_rank job m s.rank g ≡ true
+      → about_at job n ≡ Some (RegisterMap m) → HasLeft s n → is_home_rank job m s.rank g ≡ true
       → view.directory m g ≡ owner (layout_of job m) g
 
   -- Once the questions of a plan are left, a rank has those of all ranks.
   abbrev pub QuestionsAreWhole : Type 0
   QuestionsAreWhole =
       (job : Job) (files : List File) (view : View S) (s : Stage) (n q : ℕ) (plan : Plan) → IsJobStage R F job files view s
-      → about_at job n ≡ Some (AskOwners plan) → suc n < s.entered → q < job.ranks
+      → about_at job n ≡ Some (AskOwners plan) → HasLeft s n → q < job.ranks
       → view.asked plan q ≡ asked job files plan q s.rank
 
   -- It answers them by its directory.
   abbrev pub AnswersAreOwners : Type 0
   AnswersAreOwners =
       (job : Job) (files : List File) (view : View S) (s : Stage) (i j k q : ℕ) (plan : Plan) → IsValid job → IsJobStage R F job files view s
-      → about_at job i ≡ Some (RegisterMap (owner_map job plan)) → suc i < s.entered → about_at job j ≡ Some (AskOwners plan) → suc j < s.entered
+      → about_at job i ≡ Some (RegisterMap (owner_map job plan)) → HasLeft s i → about_at job j ≡ Some (AskOwners plan) → HasLeft s j
       → q < job.ranks
       → entries_about job files k (TellOwners plan) s.rank q ≡ map (λ g. unwrap_or (view.directory (owner_map job plan) g) no_owner) (view.asked plan q)
 
@@ -98,12 +107,12 @@ module _ {S : Type 0} (R : Semiring S) (F : Conversions S) where
   abbrev pub OwnersAreKnown : Type 0
   OwnersAreKnown =
       (job : Job) (files : List File) (view : View S) (s : Stage) (n g : ℕ) (plan : Plan) → IsValid job → IsJobStage R F job files view s
-      → about_at job n ≡ Some (TellOwners plan) → suc n < s.entered → stands g (lacking job files plan s.rank) ≡ true
+      → about_at job n ≡ Some (TellOwners plan) → HasLeft s n → stands g (lacking job files plan s.rank) ≡ true
       → view.owners plan g ≡ owner (layout_of job (owner_map job plan)) g
 
   -- Once the lists of a plan are left, a rank has what each other rank lacks of it.
   abbrev pub ListsAreTold : Type 0
   ListsAreTold =
       (job : Job) (files : List File) (view : View S) (s : Stage) (n q : ℕ) (plan : Plan) → IsJobStage R F job files view s
-      → about_at job n ≡ Some (SharePlan plan) → suc n < s.entered → q < job.ranks → (q == s.rank) ≡ false
+      → about_at job n ≡ Some (SharePlan plan) → HasLeft s n → q < job.ranks → (q == s.rank) ≡ false
       → view.told plan q ≡ remote job files plan q s.rank

@@ -1,7 +1,8 @@
 //! The laws of the stages of a rank. Each function has an empty body: what it proves is its contract.
 ghost use Rattle.rank_stages.specs.AbsorbLaws.{AnswersAreAbsorbed, ListsAreAbsorbed, NumbersAreAbsorbed, QuestionsAreAbsorbed, RegistrationsAreAbsorbed};
+ghost use Rattle.rank_stages.specs.EnterLaws.{AnswersAreEntered, EndIsEntered, FirstPiecesArePieces, FirstValuesAreMade, ListsAreEntered, NumbersAreEntered, PiecesAreMade, QuestionsAreEntered, RegistrationsAreEntered};
 ghost use Rattle.rank_stages.specs.LetterLaws.{PlansComeFromAll, PlansGoToAll};
-ghost use Rattle.rank_stages.specs.OwnerLaws.{AnswersAreOwners, DirectoriesAreWhole, HomesAreOne, IndicesAreWithin, IndicesHaveOneOwner, ListsAreTold, OwnersAreKnown, QuestionsAreWhole, RemotesAreByOwners, UniformMapsAreByRule};
+ghost use Rattle.rank_stages.specs.OwnerLaws.{AnswersAreOwners, DirectoriesAreWhole, EarlierPhasesAreLeft, HomesAreOne, IndicesAreWithin, IndicesHaveOneOwner, ListsAreTold, OwnersAreKnown, PhasesAreLeft, QuestionsAreWhole, RemotesAreByOwners, UniformMapsAreByRule};
 ghost use Rattle.rank_stages.specs.PhaseOrder.{PhasesArePrepared, PlansAreMadeOnce, TransfersAreSentOnce, TransfersHavePlans};
 ghost use Rattle.rank_stages.specs.StageLaws.{GatheredStays, LettersAreCombined, LocalRanksStand, MadeValuesStay, RanksBegin};
 
@@ -44,6 +45,8 @@ pub fn remotes_are_by_owners()
 /// What a rank of a valid job knows once the phase was left that tells it: the owners of the indices whose home it is, what
 /// each rank asked it, the owner of each index that it lacks, and what each other rank lacks of it (`Tpetra::Directory`).
 pub fn owners_are_learnt<S: Scalar>()
+    ensures left { PhasesAreLeft }
+    ensures earlier { EarlierPhasesAreLeft S.semiring S.conversions }
     ensures directories { DirectoriesAreWhole S.semiring S.conversions }
     ensures questions { QuestionsAreWhole S.semiring S.conversions }
     ensures answers { AnswersAreOwners S.semiring S.conversions }
@@ -78,4 +81,23 @@ pub fn letters_are_absorbed<S: Scalar>()
     ensures answers { AnswersAreAbsorbed S.semiring S.conversions }
     ensures lists { ListsAreAbsorbed S.semiring S.conversions }
     ensures numbers { NumbersAreAbsorbed S.semiring S.conversions }
+{}
+
+/// A value is made of the rank's pieces of the values before it and of what it gathered, and the values that are made are
+/// the first ones.
+pub fn values_are_made<S: Scalar>()
+    ensures made { PiecesAreMade S.semiring S.conversions }
+    ensures before { FirstPiecesArePieces S.semiring S.conversions }
+    ensures first { FirstValuesAreMade S.semiring S.conversions }
+{}
+
+/// A phase that is entered adds one thing to what a rank keeps beside the values that are made by now, by what the phase is
+/// about; the end adds none.
+pub fn phases_are_entered<S: Scalar>()
+    ensures registrations { RegistrationsAreEntered S.semiring S.conversions }
+    ensures questions { QuestionsAreEntered S.semiring S.conversions }
+    ensures answers { AnswersAreEntered S.semiring S.conversions }
+    ensures lists { ListsAreEntered S.semiring S.conversions }
+    ensures numbers { NumbersAreEntered S.semiring S.conversions }
+    ensures end { EndIsEntered S.semiring S.conversions }
 {}
