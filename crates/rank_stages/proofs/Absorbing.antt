@@ -1,6 +1,6 @@
 -- A letter that is absorbed changes one thing that a rank keeps.
 use Rattle.std.proofs.Common.{◌≡◌, ℕ, zero, suc, ◌<◌, ◌≤◌, ◌+◌, ◌⊎◌, inl, inr, Bool, true, false, cond, ◌&&◌, ◌||◌, eqb, List, [], ◌∷◌, ◌++◌, map, filter, length, Option, None, Some, refl, sym, ap, ap₂, subst, ◌∙◌, arith, append-nil}
-use Rattle.std.specs.List.{list_any}
+use Rattle.std.specs.List.{list_all, list_any}
 use Rattle.std.specs.Option.{option_map}
 use Rattle.std.proofs.lemmas.Bool.{eq-eqb, eqb-true, ne_eqb, cases_lt}
 use Rattle.std.proofs.lemmas.List.Elements.{filter-append}
@@ -30,7 +30,7 @@ use Rattle.model_defs.specs.Stages.{Arrivals, first_pieces, is_fixed, target_at}
 use Rattle.model_defs.specs.Machine.{arrivals, letter_table}
 use Rattle.model_defs.specs.Valid.{IsOwnerMap}
 use Rattle.model_defs.proofs.Filters.{same_name-true, same_name-self, later}
-use Rattle.model_defs.proofs.Names.{sends-is}
+use Rattle.model_defs.proofs.Names.{all-append, sends-is}
 use Rattle.model_defs.proofs.PhaseFacts.{registrations-say-owners}
 use Rattle.rank_stages.specs.Views.{View}
 use Rattle.rank_stages.specs.JobStages.{IsJobStage, IsOpen, HasValues, HasDirectories, HasQuestions, HasOwners, HasOwnLists, HasToldLists, HasGathered, about_at, has_heard, heard_owner, letter_name, gathered_so_far}
@@ -146,6 +146,15 @@ module _ {S : Type 0} (R : Semiring S) (F : Conversions S) (job : Job) (files : 
       ∙ ap₂ (λ xs ys. xs ++ ys) (h.stands_so.later n l e)
       (ap (λ b. cond (b && (eqb name.to s.rank)) ((name, bytes) ∷ []) []) (ne_eqb name.phase n (λ f. absurd (let g = here in omega (arith, e, f, g)))))
 
+  letters-named : (n : ℕ) → n < s.phases → list_all (λ (l : Letter). stands_in s.protocol.names l.0) (letters_of n s.rank (s.absorbed ++ (name, bytes) ∷ [])) ≡ true
+  letters-named n l =
+      ap (list_all (λ (l : Letter). stands_in s.protocol.names l.0)) (filter-append (λ m. (eqb m.0.phase n) && (eqb m.0.to s.rank)) s.absorbed ((name, bytes) ∷ []))
+      ∙ all-append (λ (l : Letter). stands_in s.protocol.names l.0) (letters_of n s.rank s.absorbed) _ (h.stands_so.named n l) (by ((eqb name.phase n) && (eqb name.to s.rank)))
+    where
+      by : (b : Bool) → list_all (λ (l : Letter). stands_in s.protocol.names l.0) (cond b ((name, bytes) ∷ []) []) ≡ true
+      by true = ap (λ c. c && true) h.can_absorb.is_letter.named
+      by false = refl
+
   passed-more : (n : ℕ) → n < s.entered → HasAbsorbed (after s name bytes) n
   passed-more n l m named is before = given-before s.absorbed (name, bytes) m (h.stands_so.passed n l m named is before)
 
@@ -160,6 +169,7 @@ module _ {S : Type 0} (R : Semiring S) (F : Conversions S) (job : Job) (files : 
     within = h.stands_so.within;
     passed = passed-more;
     later = letters-later;
+    named = letters-named;
     values = a;
     directory = b;
     asked = c;

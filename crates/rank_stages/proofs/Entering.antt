@@ -167,6 +167,7 @@ module _ {S : Type 0} (R : Semiring S) (F : Conversions S) (job : Job) (files : 
     within = h.stands_so.within;
     passed = passed-more;
     later = λ n l more. h.stands_so.later n l (omega (arith, more));
+    named = λ n l. h.stands_so.named n l;
     values = a;
     directory = b;
     asked = c;

@@ -9,3 +9,4 @@ pub mod Prepared
 pub mod SendPhases
 pub mod Absorbing
 pub mod Entering
+pub mod LetterForms

@@ -56,6 +56,7 @@ module _ {S : Type 0} (R : Semiring S) (F : Conversions S) (job : Job) (files : 
       within = h.within;
       passed = λ phase l n e to before. absurd (let gone = ap (λ p. stands_in p.names n) h.protocol ∙ ap (λ ns. stands_in ns n) no-letters in let bad : ⊥ = cc in bad);
       later = λ n l e. absurd (let none = h.phases in omega (arith, l, none));
+      named = λ n l. absurd (let none = h.phases in omega (arith, l, none));
       values = λ k l made. h.made made.begun k l ∙ sym (ap Some (same-pieces s.rank k s.absorbed));
       directory = λ n m g e l is. absurd (let none = no-about n in let bad : ⊥ = cc in bad);
       asked = λ n q plan e l is. absurd (let none = no-about n in let bad : ⊥ = cc in bad);

@@ -143,6 +143,7 @@ ranks_begin R F = λ job files view rank below limit. record {
   within = below;
   passed = λ n l. absurd (omega (arith, l));
   later = λ n l e. refl;
+  named = λ n l. refl;
   values = λ k l made. absurd (let begun = made.begun in omega (arith, begun));
   directory = λ n m g e l home. absurd (omega (arith, l));
   asked = λ n q plan e l h. absurd (omega (arith, l));

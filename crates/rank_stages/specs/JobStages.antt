@@ -1,6 +1,7 @@
 -- Where the worker of a rank of any job stands: what it keeps, by the letters that were given to this rank alone. No other
 -- rank is spoken of, and no letter's numbers are asked to be those that its sender made.
 use Rattle.std.specs.Prelude.{◌≡◌, ℕ, suc, ◌+◌, ◌<◌, ◌≤◌, ◌^◌, ◌==◌, ◌||◌, Bool, true, if◌then◌else◌, List, [], length, Option, None, Some, slice_get}
+use Rattle.std.specs.List.{list_all}
 use Rattle.std.specs.Option.{option_map}
 use Rattle.scalar_laws.specs.Semiring.{Semiring}
 use Rattle.scalar_laws.specs.Conversions.{Conversions}
@@ -9,7 +10,7 @@ use Rattle.tables.specs.Tables.{Table}
 use Rattle.map_core.specs.Layouts.{owner}
 use Rattle.mm_text.specs.Reading.{File}
 use Rattle.outside.specs.declared.name.Name.{Name}
-use Rattle.peers.specs.Protocols.{Letter}
+use Rattle.peers.specs.Protocols.{Letter, stands_in}
 use Rattle.peers.specs.Peers.{was_given}
 use Rattle.rank_phases.specs.Stages.{Stage, HasAbsorbed}
 use Rattle.model_defs.specs.declared.job.Job.{Job}
@@ -116,6 +117,8 @@ pub record IsJobStage {S : Type 0} (R : Semiring S) (F : Conversions S) (job : J
   pub passed : (n : ℕ) → n < s.entered → HasAbsorbed s n
   -- none of the phases that were not entered was
   pub later : (n : ℕ) → n < s.phases → s.entered ≤ n → letters_of n s.rank s.absorbed ≡ []
+  -- and those that were are letters of the job
+  pub named : (n : ℕ) → n < s.phases → list_all (λ l. stands_in s.protocol.names l.0) (letters_of n s.rank s.absorbed) ≡ true
   pub values : HasValues R F job files view.values s
   pub directory : HasDirectories job view.directory s
   pub asked : HasQuestions job files view.asked s

@@ -1,7 +1,7 @@
 //! The laws of the stages of a rank. Each function has an empty body: what it proves is its contract.
 ghost use Rattle.rank_stages.specs.AbsorbLaws.{AnswersAreAbsorbed, ListsAreAbsorbed, NumbersAreAbsorbed, QuestionsAreAbsorbed, RegistrationsAreAbsorbed};
 ghost use Rattle.rank_stages.specs.EnterLaws.{AnswersAreEntered, EndIsEntered, FirstPiecesArePieces, FirstValuesAreMade, ListsAreEntered, NumbersAreEntered, PiecesAreMade, QuestionsAreEntered, RegistrationsAreEntered};
-ghost use Rattle.rank_stages.specs.LetterLaws.{PlansComeFromAll, PlansGoToAll};
+ghost use Rattle.rank_stages.specs.LetterLaws.{NumbersArePacked, NumbersAreRead, PhasesHaveKinds, PlanLettersHaveForm, PlansArePacked, PlansAreRead, PlansComeFromAll, PlansGoToAll, RowsAreFew};
 ghost use Rattle.rank_stages.specs.OwnerLaws.{AnswersAreOwners, DirectoriesAreWhole, EarlierPhasesAreLeft, HomesAreOne, IndicesAreWithin, IndicesHaveOneOwner, ListsAreTold, OwnersAreKnown, PhasesAreLeft, QuestionsAreWhole, RemotesAreByOwners, UniformMapsAreByRule};
 ghost use Rattle.rank_stages.specs.PhaseOrder.{PhasesArePrepared, PlansAreMadeOnce, TransfersAreSentOnce, TransfersHavePlans};
 ghost use Rattle.rank_stages.specs.StageLaws.{GatheredStays, LettersAreCombined, LocalRanksStand, MadeValuesStay, RanksBegin};
@@ -100,4 +100,17 @@ pub fn phases_are_entered<S: Scalar>()
     ensures lists { ListsAreEntered S.semiring S.conversions }
     ensures numbers { NumbersAreEntered S.semiring S.conversions }
     ensures end { EndIsEntered S.semiring S.conversions }
+{}
+
+/// What the letters of a job are, as a rank packs them and as a wire gives them: each has the kind of its phase. One that
+/// sends no numbers has its entries as words and comes as it was posted; one that sends numbers comes with the words that
+/// its sender gave it and as many numbers.
+pub fn letters_have_forms<S: Scalar>()
+    ensures kinds { PhasesHaveKinds }
+    ensures form { PlanLettersHaveForm }
+    ensures few { RowsAreFew }
+    ensures plans_packed { PlansArePacked S.semiring S.conversions }
+    ensures plans_read { PlansAreRead S.semiring S.conversions }
+    ensures numbers_packed { NumbersArePacked S.semiring S.conversions }
+    ensures numbers_read { NumbersAreRead S.semiring S.conversions }
 {}
