@@ -1,7 +1,6 @@
 -- A letter that is absorbed changes one thing that a rank keeps.
-use Rattle.std.proofs.Common.{◌≡◌, ℕ, zero, suc, ◌<◌, ◌≤◌, ◌+◌, ◌⊎◌, inl, inr, Bool, true, false, cond, ◌&&◌, ◌||◌, eqb, List, [], ◌∷◌, ◌++◌, map, filter, length, Option, None, Some, refl, sym, ap, ap₂, subst, ◌∙◌, arith, append-nil}
-use Rattle.std.specs.List.{list_all, list_any}
-use Rattle.std.specs.Option.{option_map}
+use Rattle.std.proofs.Common.{◌≡◌, ℕ, suc, ◌<◌, ◌≤◌, ◌⊎◌, inl, inr, Bool, true, false, cond, ◌&&◌, ◌||◌, eqb, List, [], ◌∷◌, ◌++◌, Option, None, Some, refl, sym, ap, ap₂, subst, ◌∙◌, arith}
+use Rattle.std.specs.List.{list_all}
 use Rattle.std.proofs.lemmas.Bool.{eq-eqb, eqb-true, ne_eqb, cases_lt}
 use Rattle.std.proofs.lemmas.List.Elements.{filter-append}
 use Rattle.scalar_laws.specs.Semiring.{Semiring}
@@ -15,18 +14,18 @@ use Rattle.outside.specs.declared.name.Name.{Name}
 use Rattle.outside.specs.Letters.{same_name}
 use Rattle.peers.specs.Protocols.{Letter, stands_in}
 use Rattle.peers.specs.Peers.{was_given}
-use Rattle.rank_phases.specs.Stages.{Stage, CanAbsorb, HasAbsorbed, absorbing}
+use Rattle.rank_phases.specs.Stages.{Stage, HasAbsorbed, absorbing}
 use Rattle.model_defs.specs.declared.job.Job.{Job}
 use Rattle.model_defs.specs.declared.phase.About.{About}
 use Rattle.model_defs.specs.declared.phase.About.TheVariants.{RegisterMap, AskOwners, TellOwners, SharePlan, SendNumbers}
 use Rattle.model_defs.specs.declared.phase.Plan.{Plan}
 use Rattle.model_defs.specs.Maps.{layout_of, is_home_rank}
 use Rattle.model_defs.specs.Transfers.{owner_map, same_plan}
-use Rattle.model_defs.specs.Phases.{phases, send_phase}
+use Rattle.model_defs.specs.Phases.{send_phase}
 use Rattle.model_defs.specs.Plans.{remote}
 use Rattle.model_defs.specs.Letters.{asked, entries_about}
 use Rattle.model_defs.specs.Machine.{letters_of, no_phase}
-use Rattle.model_defs.specs.Stages.{Arrivals, first_pieces, is_fixed, target_at}
+use Rattle.model_defs.specs.Stages.{first_pieces, is_fixed, target_at}
 use Rattle.model_defs.specs.Machine.{arrivals, letter_table}
 use Rattle.model_defs.specs.Valid.{IsOwnerMap}
 use Rattle.model_defs.proofs.Filters.{same_name-true, same_name-self, later}
@@ -157,7 +156,6 @@ module _ {S : Type 0} (R : Semiring S) (F : Conversions S) (job : Job) (files : 
 
   passed-more : (n : ℕ) → n < s.entered → HasAbsorbed (after s name bytes) n
   passed-more n l m named is before = given-before s.absorbed (name, bytes) m (h.stands_so.passed n l m named is before)
-
 
   frame : (kept : View S) → HasValues R F job files kept.values (after s name bytes) → HasDirectories job kept.directory (after s name bytes) → HasQuestions job files kept.asked (after s name bytes)
       → HasOwners job files kept.owners (after s name bytes) → HasOwnLists job files kept.own (after s name bytes) → HasToldLists job files kept.told (after s name bytes)

@@ -1,5 +1,5 @@
 -- A phase that is entered adds one thing to what a rank keeps.
-use Rattle.std.proofs.Common.{◌≡◌, ℕ, zero, suc, ◌<◌, ◌≤◌, ◌+◌, ◌⊎◌, inl, inr, Bool, true, false, cond, ◌&&◌, ◌||◌, eqb, ltb, List, [], ◌∷◌, ◌++◌, map, length, Option, None, Some, refl, sym, ap, ap₂, subst, ◌∙◌, arith, ltb-true}
+use Rattle.std.proofs.Common.{◌≡◌, ℕ, zero, suc, ◌<◌, ◌≤◌, ◌⊎◌, inl, inr, Bool, true, false, cond, ◌&&◌, ◌||◌, eqb, ltb, List, [], ◌∷◌, map, Option, None, Some, refl, sym, ap, ap₂, ◌∙◌, arith, ltb-true}
 use Rattle.std.proofs.lemmas.Bool.{eq-eqb, eqb-true, ne_eqb, cases_lt}
 use Rattle.std.proofs.lemmas.Bool.Decides.{nat_tests}
 use Rattle.scalar_laws.specs.Semiring.{Semiring}
@@ -9,11 +9,10 @@ use Rattle.tables.specs.Tables.{Table, nowhere}
 use Rattle.combine_modes.specs.Modes.{after_one, gathered}
 use Rattle.map_core.specs.Layouts.{owner}
 use Rattle.mm_text.specs.Reading.{File}
-use Rattle.outside.specs.declared.name.Name.{Name}
 use Rattle.outside.specs.Letters.{same_name}
 use Rattle.peers.specs.Protocols.{Letter}
 use Rattle.peers.specs.Peers.{was_given}
-use Rattle.rank_phases.specs.Stages.{Stage, CanEnter, HasAbsorbed, entering}
+use Rattle.rank_phases.specs.Stages.{Stage, HasAbsorbed, entering}
 use Rattle.model_defs.specs.declared.job.Job.{Job}
 use Rattle.model_defs.specs.declared.phase.About.{About}
 use Rattle.model_defs.specs.declared.phase.About.TheVariants.{RegisterMap, AskOwners, TellOwners, SharePlan, SendNumbers}
@@ -26,16 +25,15 @@ use Rattle.model_defs.specs.Phases.{phases, send_phase}
 use Rattle.model_defs.specs.Plans.{brought, lacking, remote}
 use Rattle.model_defs.specs.Letters.{asked, entries_about}
 use Rattle.model_defs.specs.Machine.{arrivals, letters_of, letter_table, no_phase, piece, tables_of_phase}
-use Rattle.model_defs.specs.Stages.{first_pieces, gathered_after, is_fixed, made_piece, make_piece, rank_entries, stage_count, target_at, transfer_at}
+use Rattle.model_defs.specs.Stages.{first_pieces, is_fixed, make_piece, rank_entries, target_at, transfer_at}
 use Rattle.model_defs.specs.Valid.{IsOwnerMap}
 use Rattle.model_defs.proofs.Filters.{same_name-true, and}
-use Rattle.model_defs.proofs.Formed.{either}
 use Rattle.model_defs.proofs.Names.{sends-is}
 use Rattle.model_defs.proofs.PhaseFacts.{registrations-say-owners}
 use Rattle.model_defs.proofs.Turns.{in_turn-is, in_turn-first}
 use Rattle.map_core.proofs.Members.{stands-filter, and_true}
 use Rattle.rank_stages.specs.Views.{View}
-use Rattle.rank_stages.specs.JobStages.{HasLeft, IsJobStage, IsMade, IsOpen, HasValues, HasDirectories, HasQuestions, HasOwners, HasOwnLists, HasToldLists, HasGathered, about_at, has_heard, heard_owner, letter_name, gathered_so_far}
+use Rattle.rank_stages.specs.JobStages.{IsJobStage, IsMade, IsOpen, HasValues, HasDirectories, HasQuestions, HasOwners, HasOwnLists, HasToldLists, HasGathered, about_at, has_heard, heard_owner, letter_name, gathered_so_far}
 use Rattle.rank_stages.specs.EnterLaws.{IsEntering, PiecesAreMade, FirstPiecesArePieces, FirstValuesAreMade, RegistrationsAreEntered, QuestionsAreEntered, AnswersAreEntered, ListsAreEntered, NumbersAreEntered, EndIsEntered}
 use Rattle.rank_stages.proofs.Once.{plans_are_made_once, same-self}
 use Rattle.rank_stages.proofs.Owners.{directory-whole, indices_have_one_owner, phases_are_left}

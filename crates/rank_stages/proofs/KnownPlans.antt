@@ -1,10 +1,9 @@
 -- The plans that a valid job makes, and the phases that make them.
-use Rattle.std.proofs.Common.{◌≡◌, ℕ, zero, suc, ◌<◌, ◌≤◌, ◌+◌, ◌⊎◌, inl, inr, Bool, true, false, cond, eqb, List, [], ◌∷◌, ◌++◌, length, Option, None, Some, refl, sym, ap, subst, ◌∙◌, arith}
+use Rattle.std.proofs.Common.{◌≡◌, ℕ, zero, suc, ◌<◌, ◌≤◌, ◌+◌, ◌⊎◌, inl, inr, Bool, true, false, cond, eqb, List, [], ◌∷◌, ◌++◌, Some, refl, sym, ap, subst, ◌∙◌, arith}
 use Rattle.std.specs.Prelude.{slice_get}
 use Rattle.std.specs.List.{flat_map, list_any}
 use Rattle.std.specs.Option.{option_map}
 use Rattle.tables.specs.Indices.{count_from}
-use Rattle.letter_codec.specs.declared.kind.Kind.{Kind}
 use Rattle.letter_codec.specs.declared.kind.Kind.TheVariants.{Reg, Ask, Tell}
 use Rattle.map_core.specs.Layouts.{IsTotal}
 use Rattle.model_defs.specs.declared.job.Job.{Job}
@@ -21,9 +20,9 @@ use Rattle.model_defs.specs.Maps.{layout_of, is_uniform}
 use Rattle.model_defs.specs.Makers.{Maker, GivenVector, GivenParts, GivenMatrix, Made, maker_of, value_count}
 use Rattle.model_defs.specs.Shapes.{shape, shape_by, is_dense, is_split_sort}
 use Rattle.model_defs.specs.Transfers.{owner_map, shared_plan, same_plan, is_local, transfers, transfers_by, apply_transfers, to_owners}
-use Rattle.model_defs.specs.Phases.{Act, MakePlan, Send, transfer_acts, plan_acts, structure_plans, value_acts, acts, phase_for, share_kind, send_kind, is_registered, find_phases, plan_phases, phases_from, phases}
+use Rattle.model_defs.specs.Phases.{Act, MakePlan, Send, transfer_acts, plan_acts, structure_plans, value_acts, acts, phase_for, share_kind, is_registered, find_phases, plan_phases, phases_from, phases}
 use Rattle.model_defs.specs.Valid.{IsValid, IsValidMaker, IsOwnerMap, IsMatrixMap, AreSameSize}
-use Rattle.model_defs.proofs.KnownShapes.{IsKnownShape, shape-of-made, shapes-known, not-dense}
+use Rattle.model_defs.proofs.KnownShapes.{shape-of-made, shapes-known, not-dense}
 use Rattle.rank_stages.specs.JobStages.{about_at}
 
 -- what holds of each element of a list

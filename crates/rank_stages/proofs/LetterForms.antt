@@ -2,26 +2,22 @@
 use Rattle.std.proofs.Common.{◌≡◌, ℕ, zero, suc, ◌<◌, ◌≤◌, ◌+◌, ◌*◌, ◌^◌, Bool, true, false, cond, not, ◌&&◌, ◌||◌, eqb, ltb, List, [], ◌∷◌, ◌++◌, map, filter, length, get_or, take, drop, Option, None, Some, refl, sym, ap, ap₂, subst, ◌∙◌, arith, lt-ltb, ltb-true, length-append, take-append-drop}
 use Rattle.std.specs.Prelude.{slice_get}
 use Rattle.std.specs.List.{list_all, list_any}
-use Rattle.std.specs.Option.{option_map, unwrap_or}
+use Rattle.std.specs.Option.{unwrap_or}
 use Rattle.std.proofs.lemmas.Bool.{eq-eqb, eqb-true}
-use Rattle.std.proofs.lemmas.Bool.Decides.{nat_tests}
 use Rattle.std.proofs.lemmas.List.{take_at}
 use Rattle.scalar_laws.specs.Semiring.{Semiring}
 use Rattle.scalar_laws.specs.Conversions.{Conversions, AreConversions}
-use Rattle.tables.specs.declared.Cell.{Cell}
 use Rattle.tables.specs.Indices.{stands, AreDistinct, AreBelow, count_from}
 use Rattle.tables.specs.Sums.{Joining, IsJoining, total, total_below}
-use Rattle.tables.specs.Tables.{Table}
 use Rattle.tables.proofs.Sums.{total-all}
-use Rattle.map_core.specs.Layouts.{IsLayout, owner}
+use Rattle.map_core.specs.Layouts.{owner}
 use Rattle.mm_text.specs.Reading.{File}
 use Rattle.outside.specs.declared.name.Name.{Name}
 use Rattle.outside.specs.Letters.{IsAlike, index_end}
 use Rattle.peers.specs.Protocols.{Letter, only, stands_in}
 use Rattle.letter_codec.specs.Letters.{IsLetter, HasForm, AreOwners, letter_bytes, index_part, word_of_bytes}
 use Rattle.letter_codec.specs.declared.kind.Kind.{Kind}
-use Rattle.letter_codec.specs.declared.kind.Kind.TheVariants.{Reg, Ask, Tell, Want, Offer}
-use Rattle.letter_codec.proofs.AlikeLetters.{alike-letter}
+use Rattle.letter_codec.specs.declared.kind.Kind.TheVariants.{Reg, Ask, Tell}
 use Rattle.letter_codec.proofs.ReadLetters.{length-index_part, letter-count}
 use Rattle.letter_codec.proofs.WrittenNumbers.{length-number_bytes}
 use Rattle.rank_phases.specs.Stages.{Stage, CanAbsorb, CanSend}
@@ -39,10 +35,10 @@ use Rattle.model_defs.specs.Maps.{is_home_rank, is_uniform, list_of, size_of, la
 use Rattle.model_defs.specs.Shapes.{shape}
 use Rattle.model_defs.specs.Transfers.{owner_map, same_plan, shared_plan}
 use Rattle.model_defs.specs.Phases.{Act, MakePlan, Send, acts, phase_for, find_phases, is_registered, plan_phases, phases, phases_from, send_kind, send_phase, share_kind}
-use Rattle.model_defs.specs.Plans.{One, owns, rank_list_by, lacking, remote, sent_by, sent_rows}
-use Rattle.model_defs.specs.Stages.{rank_entries, transfer_at}
+use Rattle.model_defs.specs.Plans.{owns, rank_list_by, lacking, remote, sent_by, sent_rows}
+use Rattle.model_defs.specs.Stages.{rank_entries}
 use Rattle.model_defs.specs.Letters.{asked, entries_about, letter_names, letter_places, letter_words, no_owner, owner_word, places_about, sent_places, words_about}
-use Rattle.model_defs.specs.Machine.{arrivals, cells_at, index_length, job_protocol, letter_cells, letter_of_phase, letters_of, names_before, no_phase, numbers_about, phase_of, place_bytes}
+use Rattle.model_defs.specs.Machine.{arrivals, cells_at, index_length, job_protocol, letter_of_phase, letters_of, names_before, no_phase, numbers_about, place_bytes}
 use Rattle.model_defs.specs.Valid.{IsValid, IsOwnerMap}
 use Rattle.model_defs.proofs.Bounds.{maps-are-layouts, entries-are-small}
 use Rattle.model_defs.proofs.Decoding.{numbers-behind}

@@ -1,21 +1,19 @@
 -- Ranks of jobs without letters.
-use Rattle.std.proofs.Common.{◌≡◌, ℕ, ◌<◌, ◌+◌, ◌^◌, ◌↔◌, true, List, [], length, Option, None, Some, refl, sym, ap, ◌∙◌, arith}
+use Rattle.std.proofs.Common.{◌≡◌, ℕ, List, [], length, None, Some, sym, ap, ◌∙◌, arith}
 use Rattle.std.specs.Prelude.{slice_get}
 use Rattle.std.specs.List.{position_from}
 use Rattle.std.specs.Option.{option_map}
 use Rattle.scalar_laws.specs.Semiring.{Semiring}
 use Rattle.scalar_laws.specs.Conversions.{Conversions}
 use Rattle.mm_text.specs.Reading.{File}
-use Rattle.outside.specs.declared.name.Name.{Name}
 use Rattle.peers.specs.Protocols.{Letter, stands_in}
 use Rattle.rank_phases.specs.Stages.{Stage}
 use Rattle.model_defs.specs.declared.job.Job.{Job}
-use Rattle.model_defs.specs.declared.phase.About.{About}
 use Rattle.model_defs.specs.Local.{IsLocalJob}
 use Rattle.model_defs.specs.Letters.{letter_names, names_of_phases}
-use Rattle.model_defs.specs.Phases.{phases, send_phase, sends}
+use Rattle.model_defs.specs.Phases.{send_phase, sends}
 use Rattle.model_defs.specs.Stages.{pieces}
-use Rattle.model_defs.specs.Machine.{arrivals, job_protocol, piece, tables_of_phase}
+use Rattle.model_defs.specs.Machine.{arrivals, piece, tables_of_phase}
 use Rattle.job_phases.proofs.LocalJobs.{no-phases}
 use Rattle.rank_stages.specs.Views.{View}
 use Rattle.rank_stages.specs.JobStages.{IsJobStage, about_at}

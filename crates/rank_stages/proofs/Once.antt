@@ -1,5 +1,5 @@
 -- A map is registered once, and a plan made once.
-use Rattle.std.proofs.Common.{◌≡◌, ℕ, zero, suc, ◌<◌, ◌≤◌, ◌+◌, ◌⊎◌, inl, inr, Bool, true, false, cond, ◌&&◌, ◌||◌, eqb, List, [], ◌∷◌, ◌++◌, length, Option, None, Some, refl, sym, ap, subst, ◌∙◌, arith}
+use Rattle.std.proofs.Common.{◌≡◌, ℕ, zero, suc, Bool, true, false, cond, ◌&&◌, ◌||◌, eqb, List, [], ◌∷◌, ◌++◌, Some, refl, sym, ap, ◌∙◌}
 use Rattle.std.specs.Prelude.{slice_get}
 use Rattle.std.specs.List.{list_any}
 use Rattle.std.specs.Option.{option_map}
@@ -20,7 +20,6 @@ use Rattle.model_defs.specs.Phases.{Act, MakePlan, Send, acts, phase_for, share_
 use Rattle.model_defs.specs.Valid.{IsValid}
 use Rattle.model_defs.proofs.SharedPlans.{plans_are_shared}
 use Rattle.model_defs.proofs.Filters.{later}
-use Rattle.rank_stages.specs.JobStages.{about_at}
 use Rattle.rank_stages.specs.LetterLaws.{sends_numbers}
 use Rattle.rank_stages.specs.PhaseOrder.{PlansAreMadeOnce}
 use Rattle.rank_stages.proofs.KnownPlans.{Each, each-append, IsKnownPlan, IsKnownAct, acts-known}

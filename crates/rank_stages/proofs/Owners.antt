@@ -1,11 +1,11 @@
 -- How a rank learns the owners of indices.
-use Rattle.std.proofs.Common.{◌≡◌, ℕ, zero, suc, ◌<◌, ◌≤◌, ◌+◌, ◌↔◌, Bool, true, false, cond, not, ◌&&◌, ◌||◌, eqb, List, [], ◌∷◌, map, filter, Option, None, Some, IsSome, refl, sym, ap, subst, ◌∙◌, arith}
+use Rattle.std.proofs.Common.{◌≡◌, ℕ, zero, suc, ◌<◌, ◌+◌, Bool, true, false, cond, ◌||◌, eqb, List, [], ◌∷◌, map, filter, Option, None, Some, IsSome, refl, sym, ap, subst, ◌∙◌, arith}
 use Rattle.std.specs.Option.{unwrap_or}
 use Rattle.std.proofs.lemmas.Bool.{eq-eqb, eqb-true}
 use Rattle.scalar_laws.specs.Semiring.{Semiring}
 use Rattle.scalar_laws.specs.Conversions.{Conversions}
 use Rattle.tables.specs.Indices.{stands, count_from}
-use Rattle.map_core.specs.Layouts.{IsOneToOne, IsTotal, owner}
+use Rattle.map_core.specs.Layouts.{IsOneToOne, owner}
 use Rattle.map_core.specs.Uniform.{uniform_layout}
 use Rattle.map_core.proofs.Owners.{owner-only, owner-has, owner-below, owner-total}
 use Rattle.map_core.proofs.Contiguous.{total, length-uniform}
@@ -22,12 +22,11 @@ use Rattle.model_defs.specs.declared.phase.About.{About}
 use Rattle.model_defs.specs.declared.phase.About.TheVariants.{RegisterMap, AskOwners, TellOwners, SharePlan, SendNumbers}
 use Rattle.model_defs.specs.declared.phase.Plan.{Plan}
 use Rattle.model_defs.specs.declared.phase.Plan.TheVariants.{ImportPlan, ExportPlan, ColumnPlan, RowPlan}
-use Rattle.model_defs.specs.Maps.{map_at, layout_of, size_of, is_home_rank, is_uniform, is_by_rule, lists_of, list_of}
+use Rattle.model_defs.specs.Maps.{map_at, layout_of, size_of, is_home_rank, is_by_rule, lists_of, list_of}
 use Rattle.model_defs.specs.Shapes.{shape}
 use Rattle.model_defs.specs.Transfers.{owner_map}
 use Rattle.model_defs.specs.Plans.{owns, rank_list_by, lacking, remote}
-use Rattle.model_defs.specs.Letters.{asked, entries_about, owner_word, no_owner, letter_names}
-use Rattle.model_defs.specs.Machine.{job_protocol}
+use Rattle.model_defs.specs.Letters.{asked, entries_about, owner_word, no_owner}
 use Rattle.model_defs.specs.Valid.{IsValid, IsOwnerMap}
 use Rattle.model_defs.proofs.Bounds.{maps-are-layouts}
 use Rattle.model_defs.proofs.Filters.{filter-ext, later}

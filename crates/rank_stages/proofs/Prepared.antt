@@ -1,7 +1,7 @@
 -- Each phase comes after those that it needs.
-use Rattle.std.proofs.Common.{◌≡◌, ℕ, zero, suc, ◌<◌, ◌≤◌, ◌+◌, ◌⊎◌, inl, inr, Bool, true, false, cond, ◌&&◌, ◌||◌, eqb, List, [], ◌∷◌, ◌++◌, length, get_or, take, Option, None, Some, refl, sym, ap, subst, ◌∙◌, arith, append-nil, append_assoc}
+use Rattle.std.proofs.Common.{◌≡◌, ℕ, zero, suc, ◌<◌, ◌+◌, ◌⊎◌, inl, inr, Bool, true, false, cond, ◌||◌, eqb, List, [], ◌∷◌, ◌++◌, length, get_or, take, Some, refl, sym, ap, subst, ◌∙◌, arith, append-nil, append_assoc}
 use Rattle.std.specs.Prelude.{slice_get}
-use Rattle.std.specs.List.{list_any, flat_map, position_from}
+use Rattle.std.specs.List.{list_any, flat_map}
 use Rattle.std.specs.Option.{option_map}
 use Rattle.std.proofs.lemmas.Bool.{eq-eqb, eqb-true}
 use Rattle.std.proofs.lemmas.List.Folds.{list_any-append}
@@ -20,14 +20,13 @@ use Rattle.model_defs.specs.Makers.{value_count}
 use Rattle.model_defs.specs.Maps.{is_uniform}
 use Rattle.model_defs.specs.Shapes.{shape}
 use Rattle.model_defs.specs.Transfers.{is_local, owner_map, shared_plan, same_plan, transfers, from_owners}
-use Rattle.model_defs.specs.Phases.{Act, MakePlan, Send, transfer_acts, plan_acts, structure_plans, value_acts, acts, phase_for, share_kind, send_kind, is_registered, find_phases, plan_phases, phases_from, phases, sends, send_phase}
+use Rattle.model_defs.specs.Phases.{Act, MakePlan, Send, transfer_acts, plan_acts, structure_plans, value_acts, acts, phase_for, share_kind, send_kind, is_registered, find_phases, plan_phases, phases_from, phases}
 use Rattle.model_defs.specs.Stages.{transfer_at}
 use Rattle.model_defs.specs.Valid.{IsValid}
 use Rattle.model_defs.proofs.Filters.{both, later}
 use Rattle.model_defs.proofs.Formed.{either}
-use Rattle.rank_stages.specs.JobStages.{about_at}
-use Rattle.rank_stages.specs.PhaseOrder.{IsEarlierAbout, IsMadePlan, IsPrepared, PhasesArePrepared, TransfersHavePlans}
-use Rattle.rank_stages.proofs.KnownPlans.{Each, IsKnownPlan, IsKnownAct, acts-known}
+use Rattle.rank_stages.specs.PhaseOrder.{IsEarlierAbout, IsPrepared, PhasesArePrepared, TransfersHavePlans}
+use Rattle.rank_stages.proofs.KnownPlans.{Each, IsKnownAct, acts-known}
 use Rattle.rank_stages.proofs.Once.{same-self, shared-owners}
 use Rattle.rank_stages.proofs.SendPhases.{send-phase-is}
 
@@ -224,27 +223,32 @@ module _ (job : Job) where
       asked_and_told : (front : List Phase) → HasIn front (RegisterMap (owner_map job plan)) → ArePrepared job front (ask k plan ∷ tell k plan ∷ share k plan ∷ [])
       asked_and_told front r = (
         r,
-        ((has-front front (ask k plan ∷ []) (RegisterMap (owner_map job plan)) r, has-back front (ask k plan ∷ []) (AskOwners plan) (inl refl)),
-        ((λ u. has-back (front ++ ask k plan ∷ []) (tell k plan ∷ []) (TellOwners plan) (inl refl)), tt)),
+        (
+          (has-front front (ask k plan ∷ []) (RegisterMap (owner_map job plan)) r, has-back front (ask k plan ∷ []) (AskOwners plan) (inl refl)),
+          ((λ u. has-back (front ++ ask k plan ∷ []) (tell k plan ∷ []) (TellOwners plan) (inl refl)), tt),
+        ),
       )
 
       registered : (b : Bool) → is_registered job made (owner_map job plan) ≡ b → is_uniform job (owner_map job plan) ≡ false
           → IsNext before made plan ((cond b [] (reg k plan ∷ []) ++ ask k plan ∷ tell k plan ∷ []) ++ share k plan ∷ [])
       registered true e u =
-          let r = h.maps (owner_map job plan) e u in
-          (asked_and_told before r,
-          anew before (ask k plan ∷ tell k plan ∷ share k plan ∷ []) made plan same h (λ v. has-front before (ask k plan ∷ tell k plan ∷ share k plan ∷ []) (RegisterMap (owner_map job plan)) r)
-          (has-back before (ask k plan ∷ tell k plan ∷ share k plan ∷ []) (SharePlan plan) (inr (inr (inl refl)))))
-      registered false e u =
-          ((tt, asked_and_told (before ++ reg k plan ∷ []) (has-back before (reg k plan ∷ []) (RegisterMap (owner_map job plan)) (inl refl))),
-          anew before (reg k plan ∷ ask k plan ∷ tell k plan ∷ share k plan ∷ []) made plan same h (λ v. has-back before (reg k plan ∷ ask k plan ∷ tell k plan ∷ share k plan ∷ []) (RegisterMap (owner_map job plan)) (inl refl))
-          (has-back before (reg k plan ∷ ask k plan ∷ tell k plan ∷ share k plan ∷ []) (SharePlan plan) (inr (inr (inr (inl refl))))))
+          let r = h.maps (owner_map job plan) e u in (
+            asked_and_told before r,
+            anew before (ask k plan ∷ tell k plan ∷ share k plan ∷ []) made plan same h (λ v. has-front before (ask k plan ∷ tell k plan ∷ share k plan ∷ []) (RegisterMap (owner_map job plan)) r)
+                (has-back before (ask k plan ∷ tell k plan ∷ share k plan ∷ []) (SharePlan plan) (inr (inr (inl refl)))),
+          )
+      registered false e u = (
+        (tt, asked_and_told (before ++ reg k plan ∷ []) (has-back before (reg k plan ∷ []) (RegisterMap (owner_map job plan)) (inl refl))),
+        anew before (reg k plan ∷ ask k plan ∷ tell k plan ∷ share k plan ∷ []) made plan same h (λ v. has-back before (reg k plan ∷ ask k plan ∷ tell k plan ∷ share k plan ∷ []) (RegisterMap (owner_map job plan)) (inl refl))
+            (has-back before (reg k plan ∷ ask k plan ∷ tell k plan ∷ share k plan ∷ []) (SharePlan plan) (inr (inr (inr (inl refl))))),
+      )
 
       found : (b : Bool) → is_uniform job (owner_map job plan) ≡ b
           → IsNext before made plan (cond b [] (cond (is_registered job made (owner_map job plan)) [] (reg k plan ∷ []) ++ ask k plan ∷ tell k plan ∷ []) ++ share k plan ∷ [])
-      found true u =
-          (((λ v. absurd (let bad : ⊥ = cc in bad)), tt),
-          anew before (share k plan ∷ []) made plan same h (λ v. absurd (let bad : ⊥ = cc in bad)) (has-back before (share k plan ∷ []) (SharePlan plan) (inl refl)))
+      found true u = (
+        ((λ v. absurd (let bad : ⊥ = cc in bad)), tt),
+        anew before (share k plan ∷ []) made plan same h (λ v. absurd (let bad : ⊥ = cc in bad)) (has-back before (share k plan ∷ []) (SharePlan plan) (inl refl)),
+      )
       found false u = registered (is_registered job made (owner_map job plan)) refl u
 
       by : (b : Bool) → list_any (same_plan (shared_plan job plan)) made ≡ b → IsNext before made plan (cond b [] (find_phases job made k plan ++ share k plan ∷ []))
@@ -257,12 +261,13 @@ module _ (job : Job) where
     prepared before made (MakePlan k plan ∷ xs) known served h =
         let t = plan-prepared before made k plan (shared-owners job files valid fit plan known.0) h in
         prepared-append job before (plan_phases job made k plan) _ t.0 (prepared (before ++ plan_phases job made k plan) (made ++ shared_plan job plan ∷ []) xs known.1 served t.1)
-    prepared before made (Send k t ∷ xs) known served h =
-        (h.plans (shared_plan job (transfer_at job k t).plan) served.0,
-        prepared (before ++ phase_for k (send_kind job k) (SendNumbers t) ∷ []) made xs known.1 served.1 (record {
-          maps = λ m e u. has-front before (phase_for k (send_kind job k) (SendNumbers t) ∷ []) (RegisterMap m) (h.maps m e u);
-          plans = λ p e. (let q = h.plans p e in (q.0, q.1, has-front before (phase_for k (send_kind job k) (SendNumbers t) ∷ []) (SharePlan q.0) q.2));
-        }))
+    prepared before made (Send k t ∷ xs) known served h = (
+      h.plans (shared_plan job (transfer_at job k t).plan) served.0,
+      prepared (before ++ phase_for k (send_kind job k) (SendNumbers t) ∷ []) made xs known.1 served.1 (record {
+        maps = λ m e u. has-front before (phase_for k (send_kind job k) (SendNumbers t) ∷ []) (RegisterMap m) (h.maps m e u);
+        plans = λ p e. (let q = h.plans p e in (q.0, q.1, has-front before (phase_for k (send_kind job k) (SendNumbers t) ∷ []) (SharePlan q.0) q.2));
+      }),
+    )
 
     all-prepared : ArePrepared job [] (phases job)
     all-prepared =

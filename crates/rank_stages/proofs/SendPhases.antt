@@ -1,11 +1,10 @@
 -- The phase that sends the numbers of a transfer.
-use Rattle.std.proofs.Common.{◌≡◌, ℕ, zero, suc, ◌+◌, Bool, true, false, cond, ◌&&◌, eqb, List, [], ◌∷◌, Some, refl, sym, ap, ◌∙◌, subst, arith}
+use Rattle.std.proofs.Common.{◌≡◌, ℕ, suc, ◌+◌, Bool, true, false, cond, eqb, List, [], ◌∷◌, Some, refl, ap, ◌∙◌, arith}
 use Rattle.std.specs.Prelude.{slice_get}
 use Rattle.std.specs.List.{position_from}
 use Rattle.std.specs.Option.{option_map}
 use Rattle.std.proofs.lemmas.Bool.{eqb-true}
 use Rattle.model_defs.specs.declared.job.Job.{Job}
-use Rattle.model_defs.specs.declared.phase.About.{About}
 use Rattle.model_defs.specs.declared.phase.About.TheVariants.{SendNumbers}
 use Rattle.model_defs.specs.declared.phase.Phase.{Phase}
 use Rattle.model_defs.specs.Phases.{phases, sends, send_phase}

@@ -1,5 +1,5 @@
 -- The numbers of a transfer are sent in one phase.
-use Rattle.std.proofs.Common.{◌≡◌, ℕ, zero, suc, ◌<◌, ◌≤◌, ◌+◌, ◌⊎◌, inl, inr, Bool, true, false, cond, ◌&&◌, ◌||◌, eqb, List, [], ◌∷◌, ◌++◌, length, Option, None, Some, refl, sym, ap, subst, ◌∙◌, arith, append-nil}
+use Rattle.std.proofs.Common.{◌≡◌, ℕ, zero, suc, ◌≤◌, ◌+◌, ◌⊎◌, inl, inr, Bool, true, false, cond, ◌&&◌, ◌||◌, eqb, List, [], ◌∷◌, ◌++◌, Some, refl, sym, ap, ◌∙◌, arith, append-nil}
 use Rattle.std.specs.Prelude.{slice_get}
 use Rattle.std.specs.List.{list_any, flat_map, position_from}
 use Rattle.std.proofs.lemmas.Bool.{eq-eqb, eqb-true}
@@ -8,13 +8,11 @@ use Rattle.tables.specs.Indices.{count_from}
 use Rattle.model_defs.specs.declared.job.Job.{Job}
 use Rattle.model_defs.specs.declared.phase.Plan.{Plan}
 use Rattle.model_defs.specs.declared.phase.Transfer.{Transfer}
-use Rattle.model_defs.specs.declared.phase.About.{About}
-use Rattle.model_defs.specs.declared.phase.About.TheVariants.{SendNumbers}
 use Rattle.model_defs.specs.declared.phase.Phase.{Phase}
 use Rattle.model_defs.specs.Makers.{value_count}
 use Rattle.model_defs.specs.Shapes.{shape}
 use Rattle.model_defs.specs.Transfers.{is_local, shared_plan, transfers}
-use Rattle.model_defs.specs.Phases.{Act, MakePlan, Send, transfer_acts, plan_acts, structure_plans, value_acts, acts, plan_phases, phases_from, phases, sends, is_stage, send_phase}
+use Rattle.model_defs.specs.Phases.{Act, MakePlan, Send, transfer_acts, plan_acts, structure_plans, value_acts, acts, plan_phases, phases_from, phases, sends, is_stage}
 use Rattle.model_defs.proofs.Filters.{both, later}
 use Rattle.model_defs.proofs.Formed.{either}
 use Rattle.model_defs.proofs.Phases.{is_send, phases-any, plans-none}

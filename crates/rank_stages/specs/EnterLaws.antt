@@ -6,7 +6,6 @@ use Rattle.scalar_laws.specs.Conversions.{Conversions}
 use Rattle.tables.specs.Indices.{stands}
 use Rattle.tables.specs.Tables.{Table, nowhere}
 use Rattle.combine_modes.specs.Modes.{after_one}
-use Rattle.map_core.specs.Layouts.{owner}
 use Rattle.mm_text.specs.Reading.{File}
 use Rattle.peers.specs.Protocols.{Letter}
 use Rattle.rank_phases.specs.Stages.{Stage, CanEnter, entering}

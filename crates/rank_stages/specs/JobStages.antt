@@ -21,7 +21,7 @@ use Rattle.model_defs.specs.Transfers.{owner_map}
 use Rattle.model_defs.specs.declared.phase.About.{About}
 use Rattle.model_defs.specs.declared.phase.About.TheVariants.{RegisterMap, AskOwners, TellOwners, SharePlan}
 use Rattle.model_defs.specs.Phases.{phases, send_phase}
-use Rattle.model_defs.specs.Plans.{lacking, remote}
+use Rattle.model_defs.specs.Plans.{remote}
 use Rattle.model_defs.specs.Letters.{asked}
 use Rattle.model_defs.specs.Stages.{first_pieces, gathered_after}
 use Rattle.model_defs.specs.Machine.{arrivals, job_protocol, letters_of, piece}

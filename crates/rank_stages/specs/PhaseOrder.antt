@@ -1,5 +1,5 @@
 -- Each thing is done in one phase, and after what it needs.
-use Rattle.std.specs.Prelude.{◌≡◌, ℕ, suc, ◌<◌, ◌≤◌, true, false, List, Some, slice_get}
+use Rattle.std.specs.Prelude.{◌≡◌, ℕ, ◌<◌, false, List, Some, slice_get}
 use Rattle.mm_text.specs.Reading.{File}
 use Rattle.model_defs.specs.declared.job.Job.{Job}
 use Rattle.model_defs.specs.declared.phase.About.{About}
