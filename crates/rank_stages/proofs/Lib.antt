@@ -10,3 +10,4 @@ pub mod SendPhases
 pub mod Absorbing
 pub mod Entering
 pub mod LetterForms
+pub mod Copies

@@ -1,7 +1,7 @@
 -- How a rank learns the owners of indices.
 use Rattle.std.proofs.Common.{◌≡◌, ℕ, zero, suc, ◌<◌, ◌+◌, Bool, true, false, cond, ◌||◌, eqb, List, [], ◌∷◌, map, filter, Option, None, Some, IsSome, refl, sym, ap, subst, ◌∙◌, arith}
 use Rattle.std.specs.Option.{unwrap_or}
-use Rattle.std.proofs.lemmas.Bool.{eq-eqb, eqb-true}
+use Rattle.std.proofs.lemmas.Bool.{eq-eqb, eqb-true, ne_eqb}
 use Rattle.scalar_laws.specs.Semiring.{Semiring}
 use Rattle.scalar_laws.specs.Conversions.{Conversions}
 use Rattle.tables.specs.Indices.{stands, count_from}
@@ -34,7 +34,7 @@ use Rattle.model_defs.proofs.KnownShapes.{ranked}
 use Rattle.rank_stages.specs.Views.{View}
 use Rattle.rank_stages.specs.JobStages.{HasLeft, IsJobStage, about_at, has_heard, heard_owner, letter_name}
 use Rattle.rank_stages.specs.LetterLaws.{sends_numbers}
-use Rattle.rank_stages.specs.OwnerLaws.{map_about, plan_about, is_rank, HasOneHome, IndicesHaveOneOwner, IndicesAreWithin, HomesAreOne, UniformMapsAreByRule, RemotesAreByOwners, DirectoriesAreWhole, QuestionsAreWhole, AnswersAreOwners, OwnersAreKnown, ListsAreTold, PhasesAreLeft, EarlierPhasesAreLeft}
+use Rattle.rank_stages.specs.OwnerLaws.{map_about, plan_about, is_rank, read_owner, AnswersAreReadBack, HasOneHome, IndicesHaveOneOwner, IndicesAreWithin, HomesAreOne, UniformMapsAreByRule, RemotesAreByOwners, DirectoriesAreWhole, QuestionsAreWhole, AnswersAreOwners, OwnersAreKnown, ListsAreTold, PhasesAreLeft, EarlierPhasesAreLeft}
 use Rattle.rank_stages.proofs.PhaseLetters.{is-named}
 use Rattle.rank_stages.proofs.KnownPlans.{IsKnownAbout, IsKnownPlan, about-is-known, owner-known}
 
@@ -49,6 +49,15 @@ indices_have_one_owner = λ job n m about valid at e. by job m about (about-is-k
     by job m (TellOwners plan) h e = let same : owner_map job plan ≡ m = cc in subst (IsOwnerMap job) same (owner-known job plan h)
     by job m (SharePlan plan) h e = let same : owner_map job plan ≡ m = cc in subst (IsOwnerMap job) same (owner-known job plan h)
     by job m (SendNumbers stage) h e = absurd (let bad : ⊥ = cc in bad)
+
+pub answers_are_read_back : AnswersAreReadBack
+answers_are_read_back = λ job files n m g about valid at e. by job valid m g (indices_have_one_owner job n m about valid at e) (owner (layout_of job m) g) refl
+  where
+    by : (job : Job) → IsValid job → (m g : ℕ) → IsOwnerMap job m → (o : Option ℕ) → owner (layout_of job m) g ≡ o → read_owner (unwrap_or o no_owner) ≡ o
+    by job valid m g known None e = refl
+    by job valid m g known (Some q) e =
+        ap (λ b. cond b None (Some q))
+        (ne_eqb q no_owner (λ f. absurd (let below = ranked job valid m known.0 g q e in let few = valid.limits.ranks in omega (arith, below, few, f))))
 
 below-count : (g a n : ℕ) → stands g (count_from a n) ≡ true → g < a + n
 below-count g a zero e = absurd (let bad : ⊥ = cc in bad)

@@ -6,3 +6,4 @@ pub mod OwnerLaws
 pub mod PhaseOrder
 pub mod AbsorbLaws
 pub mod EnterLaws
+pub mod DataLaws

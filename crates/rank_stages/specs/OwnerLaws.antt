@@ -1,5 +1,5 @@
 -- How a rank learns the owners of indices, and what each plan joins: of the phases of a valid job, whatever the wire gives.
-use Rattle.std.specs.Prelude.{◌≡◌, ℕ, suc, ◌<◌, ◌≤◌, ◌==◌, Bool, true, false, List, map, filter, Option, None, Some}
+use Rattle.std.specs.Prelude.{◌≡◌, ℕ, suc, ◌<◌, ◌≤◌, ◌==◌, Bool, true, false, if◌then◌else◌, List, map, filter, Option, None, Some}
 use Rattle.std.specs.Option.{unwrap_or}
 use Rattle.scalar_laws.specs.Semiring.{Semiring}
 use Rattle.scalar_laws.specs.Conversions.{Conversions}
@@ -15,7 +15,7 @@ use Rattle.model_defs.specs.declared.phase.Plan.{Plan}
 use Rattle.model_defs.specs.Maps.{layout_of, size_of, is_home_rank, is_uniform}
 use Rattle.model_defs.specs.Transfers.{owner_map}
 use Rattle.model_defs.specs.Plans.{rank_list_by, lacking, remote}
-use Rattle.model_defs.specs.Letters.{asked, entries_about, no_owner}
+use Rattle.model_defs.specs.Letters.{asked, entries_about, no_owner, owner_word}
 use Rattle.model_defs.specs.Valid.{IsValid, IsOwnerMap}
 use Rattle.rank_stages.specs.Views.{View}
 use Rattle.rank_stages.specs.JobStages.{HasLeft, IsJobStage, about_at}
@@ -59,6 +59,16 @@ HomesAreOne = (job : Job) (m g : ℕ) → IsValid job → g < size_of job m → 
 -- A uniform map is that of the arithmetic, so its owners are known without letters (`uniform_owner` of `map_core`).
 abbrev pub UniformMapsAreByRule : Type 0
 UniformMapsAreByRule = (job : Job) (m : ℕ) → is_uniform job m ≡ true → layout_of job m ≡ uniform_layout job.ranks (size_of job m)
+
+-- the owner that the word of an answer says
+abbrev pub read_owner : ℕ → Option ℕ
+read_owner word = if word == no_owner then None else Some word
+
+-- An answer says the owner, or that there is none.
+abbrev pub AnswersAreReadBack : Type 0
+AnswersAreReadBack =
+    (job : Job) (files : List File) (n m g : ℕ) (about : About) → IsValid job → about_at job n ≡ Some about → map_about job about ≡ Some m
+    → read_owner (owner_word job files m g) ≡ owner (layout_of job m) g
 
 -- whether an owner is this rank
 abbrev pub is_rank : ℕ → Option ℕ → Bool

@@ -1,8 +1,9 @@
 //! The laws of the stages of a rank. Each function has an empty body: what it proves is its contract.
 ghost use Rattle.rank_stages.specs.AbsorbLaws.{AnswersAreAbsorbed, ListsAreAbsorbed, NumbersAreAbsorbed, QuestionsAreAbsorbed, RegistrationsAreAbsorbed};
+ghost use Rattle.rank_stages.specs.DataLaws.{CopiesAreData, CopiesAreFull, CopiesHaveForm};
 ghost use Rattle.rank_stages.specs.EnterLaws.{AnswersAreEntered, EndIsEntered, FirstPiecesArePieces, FirstValuesAreMade, ListsAreEntered, NumbersAreEntered, PiecesAreMade, QuestionsAreEntered, RegistrationsAreEntered};
 ghost use Rattle.rank_stages.specs.LetterLaws.{NumbersArePacked, NumbersAreRead, PhasesHaveKinds, PlanLettersHaveForm, PlansArePacked, PlansAreRead, PlansComeFromAll, PlansGoToAll, RowsAreFew};
-ghost use Rattle.rank_stages.specs.OwnerLaws.{AnswersAreOwners, DirectoriesAreWhole, EarlierPhasesAreLeft, HomesAreOne, IndicesAreWithin, IndicesHaveOneOwner, ListsAreTold, OwnersAreKnown, PhasesAreLeft, QuestionsAreWhole, RemotesAreByOwners, UniformMapsAreByRule};
+ghost use Rattle.rank_stages.specs.OwnerLaws.{AnswersAreOwners, AnswersAreReadBack, DirectoriesAreWhole, EarlierPhasesAreLeft, HomesAreOne, IndicesAreWithin, IndicesHaveOneOwner, ListsAreTold, OwnersAreKnown, PhasesAreLeft, QuestionsAreWhole, RemotesAreByOwners, UniformMapsAreByRule};
 ghost use Rattle.rank_stages.specs.PhaseOrder.{PhasesArePrepared, PlansAreMadeOnce, TransfersAreSentOnce, TransfersHavePlans};
 ghost use Rattle.rank_stages.specs.StageLaws.{GatheredStays, LettersAreCombined, LocalRanksStand, MadeValuesStay, RanksBegin};
 
@@ -33,6 +34,7 @@ pub fn plans_are_sound()
     ensures one_owner { IndicesHaveOneOwner }
     ensures within { IndicesAreWithin }
     ensures one_home { HomesAreOne }
+    ensures answers { AnswersAreReadBack }
 {}
 
 /// What one rank lacks by a plan and another one owns follows from the owners alone, which in a uniform map are known by
@@ -113,4 +115,12 @@ pub fn letters_have_forms<S: Scalar>()
     ensures plans_read { PlansAreRead S.semiring S.conversions }
     ensures numbers_packed { NumbersArePacked S.semiring S.conversions }
     ensures numbers_read { NumbersAreRead S.semiring S.conversions }
+{}
+
+/// Where a value is made of the cells of a vector or of parts as they are (`move`, `import`, `export`, `spread`), its letters
+/// are DATA: their words are the rows that are sent, and each row has a number in each column, row after row.
+pub fn copies_are_full()
+    ensures places { CopiesAreFull }
+    ensures words { CopiesAreData }
+    ensures form { CopiesHaveForm }
 {}
