@@ -1,5 +1,5 @@
 -- A letter that is absorbed changes one thing that a rank keeps.
-use Rattle.std.proofs.Common.{◌≡◌, ℕ, suc, ◌<◌, ◌≤◌, ◌⊎◌, inl, inr, Bool, true, false, cond, ◌&&◌, ◌||◌, eqb, List, [], ◌∷◌, ◌++◌, Option, None, Some, refl, sym, ap, ap₂, subst, ◌∙◌, arith}
+use Rattle.std.proofs.Common.{◌≡◌, ℕ, suc, ◌<◌, ◌≤◌, ◌⊎◌, inl, inr, Bool, true, false, cond, ◌&&◌, eqb, List, [], ◌∷◌, ◌++◌, Option, None, Some, refl, sym, ap, ap₂, subst, ◌∙◌, arith}
 use Rattle.std.specs.List.{list_all}
 use Rattle.std.proofs.lemmas.Bool.{eq-eqb, eqb-true, ne_eqb, cases_lt}
 use Rattle.std.proofs.lemmas.List.Elements.{filter-append}
@@ -11,10 +11,8 @@ use Rattle.combine_modes.specs.Modes.{after_one}
 use Rattle.map_core.specs.Layouts.{owner}
 use Rattle.mm_text.specs.Reading.{File}
 use Rattle.outside.specs.declared.name.Name.{Name}
-use Rattle.outside.specs.Letters.{same_name}
 use Rattle.peers.specs.Protocols.{Letter, stands_in}
-use Rattle.peers.specs.Peers.{was_given}
-use Rattle.rank_phases.specs.Stages.{Stage, HasAbsorbed, absorbing}
+use Rattle.rank_phases.specs.Stages.{Stage, HasAbsorbed}
 use Rattle.model_defs.specs.declared.job.Job.{Job}
 use Rattle.model_defs.specs.declared.phase.About.{About}
 use Rattle.model_defs.specs.declared.phase.About.TheVariants.{RegisterMap, AskOwners, TellOwners, SharePlan, SendNumbers}
@@ -28,64 +26,18 @@ use Rattle.model_defs.specs.Machine.{letters_of, no_phase}
 use Rattle.model_defs.specs.Stages.{first_pieces, is_fixed, target_at}
 use Rattle.model_defs.specs.Machine.{arrivals, letter_table}
 use Rattle.model_defs.specs.Valid.{IsOwnerMap}
-use Rattle.model_defs.proofs.Filters.{same_name-true, same_name-self, later}
 use Rattle.model_defs.proofs.Names.{all-append, sends-is}
 use Rattle.model_defs.proofs.PhaseFacts.{registrations-say-owners}
 use Rattle.rank_stages.specs.Views.{View}
 use Rattle.rank_stages.specs.JobStages.{IsJobStage, IsOpen, HasValues, HasDirectories, HasQuestions, HasOwners, HasOwnLists, HasToldLists, HasGathered, about_at, has_heard, heard_owner, letter_name, gathered_so_far}
 use Rattle.rank_stages.specs.AbsorbLaws.{IsAbsorbing, RegistrationsAreAbsorbed, QuestionsAreAbsorbed, AnswersAreAbsorbed, ListsAreAbsorbed, NumbersAreAbsorbed}
+use Rattle.rank_stages.proofs.Heard.{after, given-before, given-other, heard-here, heard-other, owner-other}
 use Rattle.rank_stages.proofs.Stepping.{combined-step, gathered-stays, stays}
 use Rattle.rank_stages.proofs.Once.{plans_are_made_once}
 use Rattle.rank_stages.proofs.Owners.{indices_have_one_owner}
 use Rattle.rank_stages.proofs.Prepared.{same-is}
 use Rattle.rank_stages.proofs.Once.{same-self}
 use Rattle.rank_stages.proofs.SendPhases.{sent-about}
-
--- which letters were given, with one more
-given-more : (g : List Letter) (l : Letter) (n : Name) → was_given (g ++ l ∷ []) n ≡ was_given g n || same_name n l.0
-given-more [] l n = last (same_name n l.0)
-  where
-    last : (b : Bool) → b || false ≡ b
-    last true = refl
-    last false = refl
-given-more (m ∷ g) l n = ap (λ b. same_name n m.0 || b) (given-more g l n) ∙ assoc (same_name n m.0) (was_given g n) (same_name n l.0)
-  where
-    assoc : (a b c : Bool) → a || (b || c) ≡ (a || b) || c
-    assoc true b c = refl
-    assoc false b c = refl
-
-given-before : (g : List Letter) (l : Letter) (n : Name) → was_given g n ≡ true → was_given (g ++ l ∷ []) n ≡ true
-given-before g l n e = given-more g l n ∙ ap (λ b. b || same_name n l.0) e
-
--- another letter
-given-other : (g : List Letter) (l : Letter) (n : Name) → (n ≡ l.0 → ⊥) → was_given (g ++ l ∷ []) n ≡ was_given g n
-given-other g l n apart = given-more g l n ∙ by (same_name n l.0) refl
-  where
-    by : (b : Bool) → same_name n l.0 ≡ b → was_given g n || b ≡ was_given g n
-    by true e = absurd (apart (same_name-true n l.0 e))
-    by false e = none (was_given g n)
-      where
-        none : (b : Bool) → b || false ≡ b
-        none true = refl
-        none false = refl
-
-module _ (s : Stage) (name : Name) (bytes : List ℕ) where
-  abbrev after : Stage
-  after = absorbing s ((name, bytes) ∷ [])
-
-  heard-other : (n q : ℕ) → (n ≡ name.phase → q ≡ name.from → ⊥) → has_heard after n q ≡ has_heard s n q
-  heard-other n q apart = ap (λ b. (eqb q s.rank) || b) (given-other s.absorbed (name, bytes) (letter_name n q s.rank) (λ e. apart (ap (λ m. m.phase) e) (ap (λ m. m.from) e)))
-
-  heard-here : name.to ≡ s.rank → has_heard after name.phase name.from ≡ true
-  heard-here to =
-      later (eqb name.from s.rank) _
-      (given-more s.absorbed (name, bytes) (letter_name name.phase name.from s.rank)
-      ∙ later (was_given s.absorbed (letter_name name.phase name.from s.rank)) _
-      (ap (λ t. same_name (letter_name name.phase name.from t) name) (sym to) ∙ same_name-self name))
-
-  owner-other : (n : ℕ) (o : Option ℕ) → ((q : ℕ) → o ≡ Some q → n ≡ name.phase → q ≡ name.from → ⊥) → heard_owner after n o ≡ heard_owner s n o
-  owner-other n None apart = refl
-  owner-other n (Some q) apart = ap (λ b. cond b (Some q) None) (heard-other n q (apart q refl))
 
 module _ {S : Type 0} (R : Semiring S) (F : Conversions S) (job : Job) (files : List File) (view : View S) (s : Stage) (name : Name) (bytes : List ℕ) (h : IsAbsorbing R F job files view s name bytes) where
   here : suc name.phase ≡ s.entered

@@ -36,7 +36,7 @@ use Rattle.model_defs.proofs.Rows.{list-mapped}
 use Rattle.model_defs.proofs.Whole.{are_before}
 use Rattle.rank_stages.specs.DataLaws.{copied_by, row_places, full_places, IsCopied, CopiesAreFull, CopiesAreData, CopiesHaveForm}
 use Rattle.rank_stages.specs.LetterLaws.{row_words}
-use Rattle.rank_stages.proofs.LetterForms.{sent-few}
+use Rattle.rank_stages.proofs.ShortLists.{sent-few}
 
 -- ---- all cells of full rows
 

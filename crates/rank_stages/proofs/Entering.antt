@@ -1,99 +1,39 @@
 -- A phase that is entered adds one thing to what a rank keeps.
-use Rattle.std.proofs.Common.{◌≡◌, ℕ, zero, suc, ◌<◌, ◌≤◌, ◌⊎◌, inl, inr, Bool, true, false, cond, ◌&&◌, ◌||◌, eqb, ltb, List, [], ◌∷◌, map, Option, None, Some, refl, sym, ap, ap₂, ◌∙◌, arith, ltb-true}
-use Rattle.std.proofs.lemmas.Bool.{eq-eqb, eqb-true, ne_eqb, cases_lt}
-use Rattle.std.proofs.lemmas.Bool.Decides.{nat_tests}
+use Rattle.std.proofs.Common.{◌≡◌, ℕ, suc, ◌<◌, ◌≤◌, ◌⊎◌, inl, inr, Bool, true, false, cond, ◌&&◌, ◌||◌, eqb, List, [], ◌∷◌, map, Option, None, Some, refl, sym, ap, ap₂, ◌∙◌, arith}
+use Rattle.std.proofs.lemmas.Bool.{eq-eqb, eqb-true, cases_lt}
 use Rattle.scalar_laws.specs.Semiring.{Semiring}
 use Rattle.scalar_laws.specs.Conversions.{Conversions}
 use Rattle.tables.specs.Indices.{stands}
-use Rattle.tables.specs.Tables.{Table, nowhere}
+use Rattle.tables.specs.Tables.{Table}
 use Rattle.combine_modes.specs.Modes.{after_one, gathered}
 use Rattle.map_core.specs.Layouts.{owner}
 use Rattle.mm_text.specs.Reading.{File}
-use Rattle.outside.specs.Letters.{same_name}
-use Rattle.peers.specs.Protocols.{Letter}
 use Rattle.peers.specs.Peers.{was_given}
 use Rattle.rank_phases.specs.Stages.{Stage, HasAbsorbed, entering}
 use Rattle.model_defs.specs.declared.job.Job.{Job}
 use Rattle.model_defs.specs.declared.phase.About.{About}
 use Rattle.model_defs.specs.declared.phase.About.TheVariants.{RegisterMap, AskOwners, TellOwners, SharePlan, SendNumbers}
 use Rattle.model_defs.specs.declared.phase.Plan.{Plan}
-use Rattle.model_defs.specs.Makers.{value_count}
 use Rattle.model_defs.specs.Maps.{layout_of, is_home_rank}
-use Rattle.model_defs.specs.Turns.{Each, in_turn}
 use Rattle.model_defs.specs.Transfers.{owner_map, same_plan}
 use Rattle.model_defs.specs.Phases.{phases, send_phase}
 use Rattle.model_defs.specs.Plans.{brought, lacking, remote}
 use Rattle.model_defs.specs.Letters.{asked, entries_about}
-use Rattle.model_defs.specs.Machine.{arrivals, letters_of, letter_table, no_phase, piece, tables_of_phase}
-use Rattle.model_defs.specs.Stages.{first_pieces, is_fixed, make_piece, rank_entries, target_at, transfer_at}
+use Rattle.model_defs.specs.Machine.{arrivals, letters_of, letter_table, no_phase, tables_of_phase}
+use Rattle.model_defs.specs.Stages.{first_pieces, is_fixed, rank_entries, target_at, transfer_at}
 use Rattle.model_defs.specs.Valid.{IsOwnerMap}
-use Rattle.model_defs.proofs.Filters.{same_name-true, and}
 use Rattle.model_defs.proofs.Names.{sends-is}
 use Rattle.model_defs.proofs.PhaseFacts.{registrations-say-owners}
-use Rattle.model_defs.proofs.Turns.{in_turn-is, in_turn-first}
 use Rattle.map_core.proofs.Members.{stands-filter, and_true}
 use Rattle.rank_stages.specs.Views.{View}
-use Rattle.rank_stages.specs.JobStages.{IsJobStage, IsMade, IsOpen, HasValues, HasDirectories, HasQuestions, HasOwners, HasOwnLists, HasToldLists, HasGathered, about_at, has_heard, heard_owner, letter_name, gathered_so_far}
-use Rattle.rank_stages.specs.EnterLaws.{IsEntering, PiecesAreMade, FirstPiecesArePieces, FirstValuesAreMade, RegistrationsAreEntered, QuestionsAreEntered, AnswersAreEntered, ListsAreEntered, NumbersAreEntered, EndIsEntered}
+use Rattle.rank_stages.specs.JobStages.{IsJobStage, IsOpen, HasValues, HasDirectories, HasQuestions, HasOwners, HasOwnLists, HasToldLists, HasGathered, about_at, has_heard, heard_owner, letter_name, gathered_so_far}
+use Rattle.rank_stages.specs.EnterLaws.{IsEntering, RegistrationsAreEntered, QuestionsAreEntered, AnswersAreEntered, ListsAreEntered, NumbersAreEntered, EndIsEntered}
+use Rattle.rank_stages.proofs.Heard.{owner-same, unheard}
 use Rattle.rank_stages.proofs.Once.{plans_are_made_once, same-self}
 use Rattle.rank_stages.proofs.Owners.{directory-whole, indices_have_one_owner, phases_are_left}
 use Rattle.rank_stages.proofs.PhaseLetters.{about-known}
 use Rattle.rank_stages.proofs.Prepared.{phases_are_prepared, same-is}
 use Rattle.rank_stages.proofs.SendPhases.{sent-about}
-
--- ---- values
-
-pub first_values_are_made : {S : Type 0} (R : Semiring S) (F : Conversions S) → FirstValuesAreMade R F
-first_values_are_made R F = λ job files count values s first making k l made. by job files count values s first making k l made (cases_lt k count)
-  where
-    by : (job : Job) (files : List File) (count : ℕ) (values : ℕ → Option (Table _)) (s : Stage) → ((k : ℕ) → k < count → values k ≡ Some (piece R F job files s.rank k s.absorbed))
-        → (count < value_count job → IsOpen job s.entered count) → (k : ℕ) → k < value_count job → IsMade job s.entered k → (k < count) ⊎ (count ≤ k) → values k ≡ Some (piece R F job files s.rank k s.absorbed)
-    by job files count values s first making k l made (inl less) = first k less
-    by job files count values s first making k l made (inr more) =
-        let undone = making (omega (arith, l, more)) in
-        let left = made.left count undone.stage undone.phase more undone.sends in
-        let not_left = undone.not_left in
-        absurd (omega (arith, left, not_left))
-
-pub pieces_are_made : {S : Type 0} (R : Semiring S) (F : Conversions S) → PiecesAreMade R F
-pieces_are_made R F = λ job files p k g l. in_turn-is nowhere (make_piece R F job files p (arrivals R F job files p g)) (value_count job) k l
-
--- nothing is made of the values from the first n on
-none-beyond : {A : Type 0} (none : A) (rule : ℕ → Each A → A) (n v : ℕ) → n ≤ v → in_turn none rule n v ≡ none
-none-beyond none rule zero v l = refl
-none-beyond none rule (suc n) v l =
-    ap (λ b. cond b (rule n (in_turn none rule n)) (in_turn none rule n v)) (ne_eqb v n (λ e. absurd (omega (arith, l, e)))) ∙ none-beyond none rule n v (omega (arith, l))
-
-pub first_pieces_are_pieces : {S : Type 0} (R : Semiring S) (F : Conversions S) → FirstPiecesArePieces R F
-first_pieces_are_pieces R F = λ job files p k v g l. by job files p k v g l (ltb v k) refl
-  where
-    by : (job : Job) (files : List File) (p k v : ℕ) (g : List Letter) → k < value_count job → (b : Bool) → ltb v k ≡ b
-        → first_pieces R F job files p (arrivals R F job files p g) k v ≡ cond b (piece R F job files p v g) nowhere
-    by job files p k v g l true e =
-        let less = ltb-true v k e in
-        in_turn-first nowhere (make_piece R F job files p (arrivals R F job files p g)) k v less
-        ∙ sym (in_turn-first nowhere (make_piece R F job files p (arrivals R F job files p g)) (value_count job) v (omega (arith, less, l)))
-    by job files p k v g l false e = none-beyond nowhere (make_piece R F job files p (arrivals R F job files p g)) k v (grind (arith, nat_tests, e))
-
--- ---- letters of phases that were not entered
-
-unheard : (g : List Letter) (n q p : ℕ) → letters_of n p g ≡ [] → was_given g (letter_name n q p) ≡ false
-unheard [] n q p e = refl
-unheard (l ∷ g) n q p e = by (same_name (letter_name n q p) l.0) refl ((eqb l.0.phase n) && (eqb l.0.to p)) refl e (unheard g n q p)
-  where
-    by : (b : Bool) → same_name (letter_name n q p) l.0 ≡ b → (c : Bool) → ((eqb l.0.phase n) && (eqb l.0.to p)) ≡ c
-        → cond c (l ∷ letters_of n p g) (letters_of n p g) ≡ [] → (letters_of n p g ≡ [] → was_given g (letter_name n q p) ≡ false)
-        → b || was_given g (letter_name n q p) ≡ false
-    by b i true j f rest = absurd (let bad : ⊥ = cc in bad)
-    by false i false j f rest = rest f
-    by true i false j f rest =
-        let same = same_name-true (letter_name n q p) l.0 i in
-        let yes = and (eqb l.0.phase n) (eqb l.0.to p) (eq-eqb l.0.phase n (sym (ap (λ m. m.phase) same))) (eq-eqb l.0.to p (sym (ap (λ m. m.to) same))) in
-        absurd (let bad : ⊥ = cc in bad)
-
-owner-same : (s : Stage) (n : ℕ) (o : Option ℕ) → heard_owner (entering s) n o ≡ heard_owner s n o
-owner-same s n None = refl
-owner-same s n (Some q) = refl
 
 module _ {S : Type 0} (R : Semiring S) (F : Conversions S) (job : Job) (files : List File) (view : View S) (s : Stage) (phase : ℕ) (values : ℕ → Option (Table S)) (h : IsEntering R F job files view s phase values) where
   here : s.entered ≡ phase

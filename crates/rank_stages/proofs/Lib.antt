@@ -7,7 +7,10 @@ pub mod Once
 pub mod SentOnce
 pub mod Prepared
 pub mod SendPhases
+pub mod Heard
 pub mod Absorbing
+pub mod MadeValues
+pub mod ShortLists
 pub mod Entering
 pub mod LetterForms
 pub mod Copies

@@ -1,4 +1,4 @@
-use Rattle.rank_stages.proofs.Entering.{pieces_are_made, first_pieces_are_pieces, first_values_are_made}
+use Rattle.rank_stages.proofs.MadeValues.{pieces_are_made, first_pieces_are_pieces, first_values_are_made}
 use Rattle.rank_stages.proofs.laws.values_are_made.Goals as goal
 
 pub returns : goal.returns
