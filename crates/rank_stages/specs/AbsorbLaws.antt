@@ -19,11 +19,11 @@ use Rattle.model_defs.specs.Transfers.{owner_map, same_plan}
 use Rattle.model_defs.specs.Phases.{send_phase}
 use Rattle.model_defs.specs.Plans.{remote}
 use Rattle.model_defs.specs.Letters.{asked, entries_about}
-use Rattle.model_defs.specs.Stages.{first_pieces, is_fixed, target_at}
-use Rattle.model_defs.specs.Machine.{arrivals, letter_table}
+use Rattle.model_defs.specs.Stages.{is_fixed}
+use Rattle.model_defs.specs.Machine.{letter_table}
 use Rattle.model_defs.specs.Valid.{IsValid}
 use Rattle.rank_stages.specs.Views.{View}
-use Rattle.rank_stages.specs.JobStages.{IsJobStage, about_at}
+use Rattle.rank_stages.specs.JobStages.{IsJobStage, about_at, target_so_far}
 
 module _ {S : Type 0} (R : Semiring S) (F : Conversions S) where
   -- the rank of this view stands at a stage, and can absorb this letter
@@ -38,14 +38,16 @@ module _ {S : Type 0} (R : Semiring S) (F : Conversions S) where
   RegistrationsAreAbsorbed =
       (job : Job) (files : List File) (view : View S) (s : Stage) (name : Name) (bytes : List ℕ) (k m : ℕ) (directory : ℕ → ℕ → Option ℕ)
       → IsAbsorbing job files view s name bytes → about_at job name.phase ≡ Some (RegisterMap m)
-      → ((g : ℕ) → directory m g ≡ (if stands g (entries_about job files k (RegisterMap m) name.from s.rank) then Some name.from else view.directory m g))
+      → ((g : ℕ) → directory m g
+      ≡ (if stands g (entries_about job files k (RegisterMap m) name.from s.rank) then Some name.from else view.directory m g))
       → ((o g : ℕ) → (o == m) ≡ false → directory o g ≡ view.directory o g)
       → IsJobStage R F job files (record view { directory = directory }) (absorbing s ((name, bytes) ∷ []))
 
   -- ASK: the questions of the sender are kept.
   abbrev pub QuestionsAreAbsorbed : Type 0
   QuestionsAreAbsorbed =
-      (job : Job) (files : List File) (view : View S) (s : Stage) (name : Name) (bytes : List ℕ) (plan : Plan) (questions : Plan → ℕ → List ℕ)
+      (job : Job) (files : List File) (view : View S) (s : Stage) (name : Name) (bytes : List ℕ) (plan : Plan)
+      (questions : Plan → ℕ → List ℕ)
       → IsAbsorbing job files view s name bytes → about_at job name.phase ≡ Some (AskOwners plan)
       → questions plan name.from ≡ asked job files plan name.from s.rank
       → ((other : Plan) (q : ℕ) → same_plan other plan && (q == name.from) ≡ false → questions other q ≡ view.asked other q)
@@ -54,10 +56,12 @@ module _ {S : Type 0} (R : Semiring S) (F : Conversions S) where
   -- TELL: the owners of the indices that were asked of the sender are known.
   abbrev pub AnswersAreAbsorbed : Type 0
   AnswersAreAbsorbed =
-      (job : Job) (files : List File) (view : View S) (s : Stage) (name : Name) (bytes : List ℕ) (plan : Plan) (owners : Plan → ℕ → Option ℕ)
+      (job : Job) (files : List File) (view : View S) (s : Stage) (name : Name) (bytes : List ℕ) (plan : Plan)
+      (owners : Plan → ℕ → Option ℕ)
       → IsAbsorbing job files view s name bytes → about_at job name.phase ≡ Some (TellOwners plan)
       → ((g : ℕ) → stands g (asked job files plan s.rank name.from) ≡ true → owners plan g ≡ owner (layout_of job (owner_map job plan)) g)
-      → ((other : Plan) (g : ℕ) → same_plan other plan && stands g (asked job files plan s.rank name.from) ≡ false → owners other g ≡ view.owners other g)
+      → ((other : Plan) (g : ℕ) → same_plan other plan && stands g (asked job files plan s.rank name.from) ≡ false
+      → owners other g ≡ view.owners other g)
       → IsJobStage R F job files (record view { owners = owners }) (absorbing s ((name, bytes) ∷ []))
 
   -- WANT and OFFER: what the sender lacks of this rank is kept.
@@ -75,7 +79,7 @@ module _ {S : Type 0} (R : Semiring S) (F : Conversions S) where
       (job : Job) (files : List File) (view : View S) (s : Stage) (name : Name) (bytes : List ℕ) (k t : ℕ) (gathered : ℕ → ℕ → Table S)
       → IsAbsorbing job files view s name bytes → send_phase job k t ≡ Some name.phase
       → gathered k t
-      ≡ (λ i j. after_one R (target_at R F job files s.rank k t (first_pieces R F job files s.rank (arrivals R F job files s.rank s.absorbed) k)).mode (is_fixed job k)
+      ≡ (λ i j. after_one R (target_so_far R F job files s.rank s.absorbed k t).mode (is_fixed job k)
       (view.gathered k t i j) (letter_table R F job files (name, bytes) i j))
       → ((v u : ℕ) → (v == k) && (u == t) ≡ false → gathered v u ≡ view.gathered v u)
       → IsJobStage R F job files (record view { gathered = gathered }) (absorbing s ((name, bytes) ∷ []))

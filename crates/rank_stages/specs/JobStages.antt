@@ -23,7 +23,7 @@ use Rattle.model_defs.specs.declared.phase.About.TheVariants.{RegisterMap, AskOw
 use Rattle.model_defs.specs.Phases.{phases, send_phase}
 use Rattle.model_defs.specs.Plans.{remote}
 use Rattle.model_defs.specs.Letters.{asked}
-use Rattle.model_defs.specs.Stages.{first_pieces, gathered_after}
+use Rattle.model_defs.specs.Stages.{Target, first_pieces, gathered_after, target_at}
 use Rattle.model_defs.specs.Machine.{arrivals, job_protocol, letters_of, piece}
 use Rattle.rank_stages.specs.Views.{View}
 
@@ -62,6 +62,10 @@ pub record IsOpen (job : Job) (entered k : ℕ) : Type 0 where
   pub sends : send_phase job k stage ≡ Some phase
   pub not_left : entered ≤ suc phase
 
+-- how what comes to a rank in a transfer is combined, and onto what, by the letters that were given so far
+abbrev pub target_so_far : {S : Type 0} → Semiring S → Conversions S → Job → List File → ℕ → List Letter → ℕ → ℕ → Target S
+target_so_far R F job files p g k t = target_at R F job files p k t (first_pieces R F job files p (arrivals R F job files p g) k)
+
 -- what a rank gathered in the transfers of a value up to this one, of the letters that were given so far
 abbrev pub gathered_so_far : {S : Type 0} → Semiring S → Conversions S → Job → List File → ℕ → List Letter → ℕ → ℕ → Table S
 gathered_so_far R F job files p g k t =
@@ -71,7 +75,8 @@ gathered_so_far R F job files p g k t =
 
 -- of each value that is made its piece
 abbrev pub HasValues : {S : Type 0} → Semiring S → Conversions S → Job → List File → (ℕ → Option (Table S)) → Stage → Type 0
-HasValues R F job files values s = (k : ℕ) → k < value_count job → IsMade job s.entered k → values k ≡ Some (piece R F job files s.rank k s.absorbed)
+HasValues R F job files values s = (k : ℕ) → k < value_count job → IsMade job s.entered k
+    → values k ≡ Some (piece R F job files s.rank k s.absorbed)
 
 -- of each map that is registered the owners of the indices whose home it is, as far as their owners' letters came
 abbrev pub HasDirectories : Job → (ℕ → ℕ → Option ℕ) → Stage → Type 0
@@ -93,7 +98,8 @@ HasOwners job files owners s =
 
 -- of a plan that is shared what it lacks of each rank
 abbrev pub HasOwnLists : Job → List File → (Plan → ℕ → List ℕ) → Stage → Type 0
-HasOwnLists job files own s = (n q : ℕ) (plan : Plan) → about_at job n ≡ Some (SharePlan plan) → n < s.entered → own plan q ≡ remote job files plan s.rank q
+HasOwnLists job files own s = (n q : ℕ) (plan : Plan) → about_at job n ≡ Some (SharePlan plan) → n < s.entered
+    → own plan q ≡ remote job files plan s.rank q
 
 -- and what each rank lacks of it, once that rank told it
 abbrev pub HasToldLists : Job → List File → (Plan → ℕ → List ℕ) → Stage → Type 0
@@ -108,7 +114,8 @@ HasGathered R F job files gathered s =
     → gathered k t ≡ gathered_so_far R F job files s.rank s.absorbed k t
 
 -- The worker is that of this rank of the job, and keeps what the letters given to it say.
-pub record IsJobStage {S : Type 0} (R : Semiring S) (F : Conversions S) (job : Job) (files : List File) (view : View S) (s : Stage) : Type 0 where
+pub record IsJobStage {S : Type 0} (R : Semiring S) (F : Conversions S) (job : Job) (files : List File)
+    (view : View S) (s : Stage) : Type 0 where
   pub protocol : s.protocol ≡ job_protocol R F job files
   pub phases : s.phases ≡ length (phases job)
   pub limit : s.phases + 1 < 2 ^ 32

@@ -35,7 +35,8 @@ sends_numbers _ = false
 abbrev pub PlansGoToAll : Type 0
 PlansGoToAll =
     (job : Job) (files : List File) (n p : ℕ) (about : About) → about_at job n ≡ Some about → sends_numbers about ≡ false → p < job.ranks
-    → (names_from (letter_names job files) n p ≡ to_others job.ranks n p) × (names_to (letter_names job files) n p ≡ from_others job.ranks n p)
+    → (names_from (letter_names job files) n p ≡ to_others job.ranks n p)
+    × (names_to (letter_names job files) n p ≡ from_others job.ranks n p)
 
 -- Each other rank's letter of it is one of the job's.
 abbrev pub PlansComeFromAll : Type 0
@@ -53,12 +54,14 @@ kind_about job k (SharePlan plan) = share_kind plan
 kind_about job k (SendNumbers stage) = send_kind job k
 
 abbrev pub PhasesHaveKinds : Type 0
-PhasesHaveKinds = (job : Job) (n : ℕ) (phase : Phase) → slice_get (phases job) n ≡ Some phase → phase.kind ≡ kind_about job phase.value phase.about
+PhasesHaveKinds = (job : Job) (n : ℕ) (phase : Phase) → slice_get (phases job) n ≡ Some phase
+    → phase.kind ≡ kind_about job phase.value phase.about
 
 -- A letter of a phase that sends no numbers has its entries as words, and nothing else: it has the form of its kind.
 abbrev pub PlanLettersHaveForm : Type 0
 PlanLettersHaveForm =
-    (job : Job) (files : List File) (n k : ℕ) (about : About) (p q : ℕ) → IsValid job → about_at job n ≡ Some about → sends_numbers about ≡ false
+    (job : Job) (files : List File) (n k : ℕ) (about : About) (p q : ℕ) → IsValid job → about_at job n ≡ Some about
+    → sends_numbers about ≡ false
     → IsLetter (kind_about job k about) (entries_about job files k about p q) []
 
 -- A transfer has at most 2^40 rows for a rank.
@@ -68,7 +71,8 @@ RowsAreFew = (job : Job) (files : List File) (t : Transfer) (p q : ℕ) → IsVa
 -- the words of a letter of a transfer of value k from p to q
 abbrev pub row_words : Job → List File → ℕ → ℕ → ℕ → ℕ → List ℕ
 row_words job files k t p q =
-    words_of_rows job files (send_kind job k) (entry_places job files p k t) (width job files k) (sent_rows job files (transfer_at job k t) p q)
+    words_of_rows job files (send_kind job k) (entry_places job files p k t) (width job files k)
+    (sent_rows job files (transfer_at job k t) p q)
 
 module _ {S : Type 0} (R : Semiring S) (F : Conversions S) where
   -- So a rank packs it, whatever letters it was given,
@@ -76,12 +80,14 @@ module _ {S : Type 0} (R : Semiring S) (F : Conversions S) where
   PlansArePacked =
       (job : Job) (files : List File) (name : Name) (phase : Phase) (given : List Letter) → slice_get (phases job) name.phase ≡ Some phase
       → sends_numbers phase.about ≡ false
-      → (job_protocol R F job files).content name given ≡ letter_bytes phase.kind (entries_about job files phase.value phase.about name.from name.to) []
+      → (job_protocol R F job files).content name given
+      ≡ letter_bytes phase.kind (entries_about job files phase.value phase.about name.from name.to) []
 
   -- and whatever a wire gives for it are these bytes.
   abbrev pub PlansAreRead : Type 0
   PlansAreRead =
-      (job : Job) (files : List File) (view : View S) (s : Stage) (name : Name) (bytes : List ℕ) (phase : Phase) → IsValid job → IsJobStage R F job files view s
+      (job : Job) (files : List File) (view : View S) (s : Stage) (name : Name) (bytes : List ℕ) (phase : Phase) → IsValid job
+      → IsJobStage R F job files view s
       → CanAbsorb s name bytes → slice_get (phases job) name.phase ≡ Some phase → sends_numbers phase.about ≡ false
       → bytes ≡ letter_bytes phase.kind (entries_about job files phase.value phase.about name.from s.rank) []
 
@@ -92,7 +98,8 @@ module _ {S : Type 0} (R : Semiring S) (F : Conversions S) where
       → send_phase job k t ≡ Some name.phase
       → s.protocol.content name s.absorbed
       ≡ letter_bytes (send_kind job k) (row_words job files k t s.rank name.to)
-      (place_bytes R F (rank_entries R F job files s.rank (arrivals R F job files s.rank s.absorbed) k t) (sent_places job files k t s.rank name.to))
+      (place_bytes R F (rank_entries R F job files s.rank (arrivals R F job files s.rank s.absorbed) k t)
+      (sent_places job files k t s.rank name.to))
 
   -- What a wire gives for it has the same words, and a number for each place, whichever; these are the cells that come.
   pub record IsRead (job : Job) (files : List File) (name : Name) (bytes : List ℕ) (k t : ℕ) : Type 0 where

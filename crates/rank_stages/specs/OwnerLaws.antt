@@ -43,7 +43,8 @@ IndicesHaveOneOwner =
 -- The indices of a rank by a plan are below the size of the map of owners.
 abbrev pub IndicesAreWithin : Type 0
 IndicesAreWithin =
-    (job : Job) (files : List File) (n p g : ℕ) (about : About) (plan : Plan) → IsValid job → about_at job n ≡ Some about → plan_about about ≡ Some plan
+    (job : Job) (files : List File) (n p g : ℕ) (about : About) (plan : Plan) → IsValid job → about_at job n ≡ Some about
+    → plan_about about ≡ Some plan
     → stands g (rank_list_by job files plan p) ≡ true → g < size_of job (owner_map job plan)
 
 -- Each index below the size of a map has one home.
@@ -89,7 +90,8 @@ module _ {S : Type 0} (R : Semiring S) (F : Conversions S) where
   -- So are the phases before the one that a rank is in.
   abbrev pub EarlierPhasesAreLeft : Type 0
   EarlierPhasesAreLeft =
-      (job : Job) (files : List File) (view : View S) (s : Stage) (n : ℕ) → IsJobStage R F job files view s → suc n < s.entered → HasLeft s n
+      (job : Job) (files : List File) (view : View S) (s : Stage) (n : ℕ) → IsJobStage R F job files view s → suc n < s.entered
+      → HasLeft s n
 
   -- Once the registrations of a map are left, a rank's directory has the owners of all indices whose home it is.
   abbrev pub DirectoriesAreWhole : Type 0
@@ -108,10 +110,12 @@ module _ {S : Type 0} (R : Semiring S) (F : Conversions S) where
   -- It answers them by its directory.
   abbrev pub AnswersAreOwners : Type 0
   AnswersAreOwners =
-      (job : Job) (files : List File) (view : View S) (s : Stage) (i j k q : ℕ) (plan : Plan) → IsValid job → IsJobStage R F job files view s
+      (job : Job) (files : List File) (view : View S) (s : Stage) (i j k q : ℕ) (plan : Plan) → IsValid job
+      → IsJobStage R F job files view s
       → about_at job i ≡ Some (RegisterMap (owner_map job plan)) → HasLeft s i → about_at job j ≡ Some (AskOwners plan) → HasLeft s j
       → q < job.ranks
-      → entries_about job files k (TellOwners plan) s.rank q ≡ map (λ g. unwrap_or (view.directory (owner_map job plan) g) no_owner) (view.asked plan q)
+      → entries_about job files k (TellOwners plan) s.rank q
+      ≡ map (λ g. unwrap_or (view.directory (owner_map job plan) g) no_owner) (view.asked plan q)
 
   -- Once the answers of a plan are left, a rank knows the owner of each index that it lacks.
   abbrev pub OwnersAreKnown : Type 0

@@ -50,7 +50,8 @@ IsPrepared job n (SendNumbers stage) = Unit {0}
 
 abbrev pub PhasesArePrepared : Type 0
 PhasesArePrepared =
-    (job : Job) (files : List File) (n : ℕ) (about : About) → IsValid job → IsFitting job files → about_at job n ≡ Some about → IsPrepared job n about
+    (job : Job) (files : List File) (n : ℕ) (about : About) → IsValid job → IsFitting job files → about_at job n ≡ Some about
+    → IsPrepared job n about
 
 -- A transfer's numbers are sent once its plan was made.
 abbrev pub TransfersHavePlans : Type 0

@@ -11,10 +11,10 @@ use Rattle.model_defs.specs.declared.job.Job.{Job}
 use Rattle.model_defs.specs.Local.{IsLocalJob}
 use Rattle.model_defs.specs.Makers.{value_count}
 use Rattle.model_defs.specs.Phases.{phases, send_phase}
-use Rattle.model_defs.specs.Stages.{first_pieces, is_fixed, target_at}
-use Rattle.model_defs.specs.Machine.{arrivals, job_protocol, letter_table, piece}
+use Rattle.model_defs.specs.Stages.{is_fixed}
+use Rattle.model_defs.specs.Machine.{job_protocol, letter_table, piece}
 use Rattle.rank_stages.specs.Views.{View}
-use Rattle.rank_stages.specs.JobStages.{IsJobStage, IsMade, gathered_so_far}
+use Rattle.rank_stages.specs.JobStages.{IsJobStage, IsMade, gathered_so_far, target_so_far}
 
 -- A rank that entered no phase stands at the beginning, whatever it keeps.
 abbrev pub RanksBegin : {S : Type 0} → Semiring S → Conversions S → Type 0
@@ -27,7 +27,7 @@ abbrev pub LettersAreCombined : {S : Type 0} → Semiring S → Conversions S �
 LettersAreCombined R F =
     (job : Job) (files : List File) (p k t n : ℕ) (g : List Letter) (l : Letter) → send_phase job k t ≡ Some n → l.0.phase ≡ n → l.0.to ≡ p
     → gathered_so_far R F job files p (g ++ l ∷ []) k t
-    ≡ (λ i j. after_one R (target_at R F job files p k t (first_pieces R F job files p (arrivals R F job files p g) k)).mode (is_fixed job k)
+    ≡ (λ i j. after_one R (target_so_far R F job files p g k t).mode (is_fixed job k)
     (gathered_so_far R F job files p g k t i j) (letter_table R F job files l i j))
 
 -- What was gathered in a transfer does not change by a letter of a later phase.
@@ -39,11 +39,13 @@ GatheredStays R F =
 -- A value that is made does not change by the letters of the phase that a rank is in.
 abbrev pub MadeValuesStay : {S : Type 0} → Semiring S → Conversions S → Type 0
 MadeValuesStay R F =
-    (job : Job) (files : List File) (p k entered : ℕ) (g : List Letter) (l : Letter) → k < value_count job → IsMade job entered k → entered ≤ suc l.0.phase
+    (job : Job) (files : List File) (p k entered : ℕ) (g : List Letter) (l : Letter) → k < value_count job → IsMade job entered k
+    → entered ≤ suc l.0.phase
     → piece R F job files p k (g ++ l ∷ []) ≡ piece R F job files p k g
 
 -- A rank of a job without letters: once it entered the end it has all its pieces.
-pub record IsLocalStage {S : Type 0} (R : Semiring S) (F : Conversions S) (job : Job) (files : List File) (values : ℕ → Option (Table S)) (s : Stage) : Type 0 where
+pub record IsLocalStage {S : Type 0} (R : Semiring S) (F : Conversions S) (job : Job) (files : List File)
+    (values : ℕ → Option (Table S)) (s : Stage) : Type 0 where
   pub protocol : s.protocol ≡ job_protocol R F job files
   pub phases : s.phases ≡ 0
   pub within : s.rank < job.ranks
