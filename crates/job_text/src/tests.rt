@@ -62,7 +62,7 @@ pub fn after(
     is(rt, alloc, whole.as_str(), wanted)
 }
 
-/// Today uniform maps, vectors, parts, `update`, `scale` and `print` are built.
+/// Today maps, vectors, parts, `update`, `scale` and `print` are built.
 #[test]
 fn words_of_today(rt: HostRuntime) -> Result<(), Fail> {
     let alloc = rt.alloc();
@@ -74,7 +74,7 @@ fn words_of_today(rt: HostRuntime) -> Result<(), Fail> {
     let text = "ranks = 2\n[[map]]\nkind = \"cyclic\"";
     assert_eq!(rt;
         answer(alloc, TODAY, text.as_bytes())?.as_str(),
-        "WrongKind map.0.kind"
+        "Missing map.0.name"
     );
     let text = "ranks = 2\n[[do]]\nop = \"move\"";
     assert_eq!(rt;

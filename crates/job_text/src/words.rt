@@ -66,9 +66,9 @@ pub struct Unbuilt {
 /// What is not built yet. A word is built once it stands as `false` here, and nothing else speaks of it.
 pub const TODAY: Unbuilt = Unbuilt {
     matrix: true,
-    blocks: true,
-    cyclic: true,
-    lists: true,
+    blocks: false,
+    cyclic: false,
+    lists: false,
     moves: true,
     imports: true,
     exports: true,

@@ -1,10 +1,11 @@
 //! The rank itself.
-ghost use Rattle.std.specs.Prelude.{◌≡◌, true, false, ℕ, List, IfOk};
+ghost use Rattle.std.specs.Prelude.{◌≡◌, true, false, ℕ, List, IfOk, length};
 ghost use Rattle.mm_text.specs.Reading.{File};
 ghost use Rattle.peers.specs.Peers.{PeerState, fresh};
 ghost use Rattle.tables.specs.Tables.{AreInOrder, found};
 ghost use Rattle.model_defs.specs.Machine.{job_protocol};
-ghost use Rattle.rank_core.specs.Ranks.{IsFinished, IsRank, IsRankInput, is_over_there, result_table};
+ghost use Rattle.rank_phases.specs.Ranks.{has_failed, is_past};
+ghost use Rattle.rank_core.specs.Ranks.{IsFinished, IsPhaseAt, IsRank, IsRankInput, is_over_there, result_table};
 
 use crate::JobWorker;
 use model_defs::Job;
@@ -73,22 +74,30 @@ impl<S: Scalar + Drop> Rank<S> {
     }
 
     /// The phase that a rank which has worked is in: the first of which it awaits a letter, or the number of phases.
-    pub fn phase(&self) -> u32 {
+    pub fn phase(&self) -> u32
+        ensures { (s : PeerState) → IsRank S.semiring S.conversions self.now s → s.has_worked ≡ true → IsPhaseAt s result (is_past self.now.phased) }
+    {
         self.phased.phase()
     }
 
     /// Whether it has finished all phases.
-    pub fn is_done(&self) -> bool {
+    pub fn is_done(&self) -> bool
+        ensures { result ≡ is_past self.now.phased }
+    {
         self.phased.is_done()
     }
 
     /// Whether `work` or `on_letter` ran out of memory. Nothing else is said of such a rank.
-    pub fn is_failed(&self) -> bool {
+    pub fn is_failed(&self) -> bool
+        ensures { result ≡ has_failed self.now.phased }
+    {
         self.phased.is_failed()
     }
 
     /// The number of blocks of the rank's pool that are lent: one for each letter that is queued. It takes no memory.
-    pub fn live_blocks(&self) -> u64 {
+    pub fn live_blocks(&self) -> u64
+        ensures { (s : PeerState) → IsRank S.semiring S.conversions self.now s → result ≡ length s.queued }
+    {
         self.phased.live_blocks()
     }
 }

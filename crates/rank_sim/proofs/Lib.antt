@@ -1,0 +1,12 @@
+pub mod Letterless
+pub mod Alike
+pub mod CompleteRuns
+pub mod LocalValues
+pub mod Overs
+pub mod Writables
+pub mod RankResults
+pub mod Finished
+pub mod PiecesShown
+pub mod Ran
+pub mod Begun
+pub mod WeighedJobs

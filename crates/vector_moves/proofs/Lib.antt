@@ -1,0 +1,5 @@
+pub mod Positions
+pub mod Came
+pub mod Sent
+pub mod Absorbing
+pub mod Wanted
