@@ -1,0 +1,16 @@
+pub mod Stepping
+pub mod PhaseLetters
+pub mod KnownPlans
+pub mod Owners
+pub mod LocalStages
+pub mod Once
+pub mod SentOnce
+pub mod Prepared
+pub mod SendPhases
+pub mod Heard
+pub mod Absorbing
+pub mod MadeValues
+pub mod ShortLists
+pub mod Entering
+pub mod LetterForms
+pub mod Copies
