@@ -4,7 +4,7 @@ ghost use Rattle.rank_stages.specs.DataLaws.{CopiesAreData, CopiesAreFull, Copie
 ghost use Rattle.rank_stages.specs.EnterLaws.{AllAreMadeAtTheEnd, AnswersAreEntered, EndIsEntered, FirstPiecesArePieces, FirstValuesAreMade, ListsAreEntered, NumbersAreEntered, PiecesAreByPhase, PiecesAreMade, QuestionsAreEntered, RegistrationsAreEntered};
 ghost use Rattle.rank_stages.specs.LetterLaws.{NumbersArePacked, NumbersAreRead, PhasesHaveKinds, PlanLettersHaveForm, PlansArePacked, PlansAreRead, PlansComeFromAll, PlansGoToAll, RowsAreFew};
 ghost use Rattle.rank_stages.specs.OwnerLaws.{AnswersAreOwners, AnswersAreReadBack, DirectoriesAreWhole, EarlierPhasesAreLeft, HomesAreOne, IndicesAreWithin, IndicesHaveOneOwner, ListsAreTold, OwnersAreKnown, PhasesAreLeft, QuestionsAreWhole, RemotesAreByOwners, UniformMapsAreByRule};
-ghost use Rattle.rank_stages.specs.PhaseOrder.{PhasesArePrepared, PlansAreMadeOnce, TransfersAreSentOnce, TransfersHavePlans};
+ghost use Rattle.rank_stages.specs.PhaseOrder.{PhasesAreFew, PhasesArePrepared, PlansAreMadeOnce, TransfersAreSentOnce, TransfersHavePlans};
 ghost use Rattle.rank_stages.specs.StageLaws.{GatheredStays, LettersAreCombined, LocalRanksStand, MadeValuesStay, RanksBegin};
 
 use scalar_laws::Scalar;
@@ -62,10 +62,11 @@ pub fn local_ranks_stand<S: Scalar>()
 {}
 
 /// Each thing is done in one phase of a job: a map is registered once, a plan is made once, and the numbers of a transfer are
-/// sent once.
+/// sent once. A valid job has few phases.
 pub fn phases_are_once()
     ensures plans { PlansAreMadeOnce }
     ensures transfers { TransfersAreSentOnce }
+    ensures few { PhasesAreFew }
 {}
 
 /// Each phase comes after those that it needs: owners are asked for once their map is registered, a plan is made once the
