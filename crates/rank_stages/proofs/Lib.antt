@@ -14,3 +14,4 @@ pub mod ShortLists
 pub mod Entering
 pub mod LetterForms
 pub mod Copies
+pub mod FewPhases

@@ -1,5 +1,5 @@
 -- What values are made of, and which are made.
-use Rattle.std.proofs.Common.{◌≡◌, ℕ, zero, suc, ◌<◌, ◌≤◌, ◌⊎◌, inl, inr, Bool, true, false, cond, ltb, List, Option, Some, refl, sym, ap, ◌∙◌, arith, ltb-true}
+use Rattle.std.proofs.Common.{◌≡◌, ℕ, zero, suc, ◌<◌, ◌≤◌, ◌⊎◌, inl, inr, Bool, true, false, cond, ltb, List, map, length, Option, None, Some, refl, sym, ap, ◌∙◌, arith, ltb-true}
 use Rattle.std.proofs.lemmas.Bool.{ne_eqb, cases_lt}
 use Rattle.std.proofs.lemmas.Bool.Decides.{nat_tests}
 use Rattle.scalar_laws.specs.Semiring.{Semiring}
@@ -7,15 +7,22 @@ use Rattle.scalar_laws.specs.Conversions.{Conversions}
 use Rattle.tables.specs.Tables.{Table, nowhere}
 use Rattle.mm_text.specs.Reading.{File}
 use Rattle.peers.specs.Protocols.{Letter}
-use Rattle.rank_phases.specs.Stages.{Stage}
 use Rattle.model_defs.specs.declared.job.Job.{Job}
 use Rattle.model_defs.specs.Makers.{value_count}
 use Rattle.model_defs.specs.Turns.{Each, in_turn}
-use Rattle.model_defs.specs.Machine.{arrivals, piece}
-use Rattle.model_defs.specs.Stages.{first_pieces, make_piece}
+use Rattle.model_defs.specs.declared.phase.About.TheVariants.{SendNumbers}
+use Rattle.model_defs.specs.Phases.{phases, send_phase}
+use Rattle.model_defs.specs.Machine.{arrivals, letter_table, no_phase, piece, tables_of_phase}
+use Rattle.model_defs.specs.Stages.{first_pieces, make_piece, pieces}
 use Rattle.model_defs.proofs.Turns.{in_turn-is, in_turn-first}
-use Rattle.rank_stages.specs.JobStages.{IsMade, IsOpen}
-use Rattle.rank_stages.specs.EnterLaws.{PiecesAreMade, FirstPiecesArePieces, FirstValuesAreMade}
+use Rattle.rank_stages.specs.JobStages.{IsJobStage, IsMade, IsOpen}
+use Rattle.rank_phases.specs.Phases.{absorbed}
+use Rattle.rank_phases.specs.Stages.{Stage}
+use Rattle.rank_phases.proofs.Absorbed.{arrivals-absorbed}
+use Rattle.rank_stages.specs.Views.{View}
+use Rattle.rank_stages.proofs.PhaseLetters.{about-known}
+use Rattle.rank_stages.proofs.SendPhases.{sent-about}
+use Rattle.rank_stages.specs.EnterLaws.{AllAreMadeAtTheEnd, PiecesAreByPhase, PiecesAreMade, FirstPiecesArePieces, FirstValuesAreMade}
 
 pub first_values_are_made : {S : Type 0} (R : Semiring S) (F : Conversions S) → FirstValuesAreMade R F
 first_values_are_made R F = λ job files count values s first making k l made. by job files count values s first making k l made (cases_lt k count)
@@ -48,3 +55,29 @@ first_pieces_are_pieces R F = λ job files p k v g l. by job files p k v g l (lt
         in_turn-first nowhere (make_piece R F job files p (arrivals R F job files p g)) k v less
         ∙ sym (in_turn-first nowhere (make_piece R F job files p (arrivals R F job files p g)) (value_count job) v (omega (arith, less, l)))
     by job files p k v g l false e = none-beyond nowhere (make_piece R F job files p (arrivals R F job files p g)) k v (grind (arith, nat_tests, e))
+
+-- ---- at the end
+
+pub all_are_made_at_the_end : {S : Type 0} (R : Semiring S) (F : Conversions S) → AllAreMadeAtTheEnd R F
+all_are_made_at_the_end R F = λ job files view s k so ended l. so.values k l (made job files view s so ended k)
+  where
+    made : (job : Job) (files : List File) (view : View _) (s : Stage) → IsJobStage R F job files view s → s.phases < s.entered → (k : ℕ) → IsMade job s.entered k
+    made job files view s so ended k = record {
+      begun = omega (arith, ended);
+      left = λ v t n le e.
+          (let known = (about-known (phases job) n no_phase (SendNumbers t) (sent-about job v t n e)).0 in let many = so.phases in omega (arith, known, many, ended));
+    }
+
+module _ {S : Type 0} (R : Semiring S) (F : Conversions S) (job : Job) (files : List File) (p : ℕ) (given : List Letter) where
+  by-phase : (v t : ℕ) → arrivals R F job files p (absorbed (suc (length (phases job))) given) v t ≡ arrivals R F job files p given v t
+  by-phase v t = by (send_phase job v t) refl
+    where
+      by : (o : Option ℕ) → send_phase job v t ≡ o → tables_of_phase R F job files p (absorbed (suc (length (phases job))) given) o ≡ tables_of_phase R F job files p given o
+      by None e = refl
+      by (Some n) e =
+          ap (map (letter_table R F job files))
+          (arrivals-absorbed (suc (length (phases job))) n p given
+          (let known = (about-known (phases job) n no_phase (SendNumbers t) (sent-about job v t n e)).0 in omega (arith, known)))
+
+pub pieces_are_by_phase : {S : Type 0} (R : Semiring S) (F : Conversions S) → PiecesAreByPhase R F
+pieces_are_by_phase R F = λ job files p k given. ap (λ a. pieces R F job files p a k) (λ i v t. by-phase R F job files p given v t i)

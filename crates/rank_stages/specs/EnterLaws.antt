@@ -1,6 +1,6 @@
 -- What a rank of a valid job keeps after it entered a phase, by what the phase is about: the values that are made by now, one
 -- thing more, and all others stay.
-use Rattle.std.specs.Prelude.{◌≡◌, ℕ, ◌<◌, ◌==◌, ◌&&◌, false, true, nat_lt, if◌then◌else◌, List, Option, Some, None}
+use Rattle.std.specs.Prelude.{◌≡◌, ℕ, suc, ◌<◌, ◌==◌, ◌&&◌, false, true, nat_lt, if◌then◌else◌, List, length, Option, Some, None}
 use Rattle.scalar_laws.specs.Semiring.{Semiring}
 use Rattle.scalar_laws.specs.Conversions.{Conversions}
 use Rattle.tables.specs.Indices.{stands}
@@ -8,6 +8,7 @@ use Rattle.tables.specs.Tables.{Table, nowhere}
 use Rattle.combine_modes.specs.Modes.{after_one}
 use Rattle.mm_text.specs.Reading.{File}
 use Rattle.peers.specs.Protocols.{Letter}
+use Rattle.rank_phases.specs.Phases.{absorbed}
 use Rattle.rank_phases.specs.Stages.{Stage, CanEnter, entering}
 use Rattle.model_defs.specs.declared.job.Job.{Job}
 use Rattle.model_defs.specs.declared.phase.About.TheVariants.{RegisterMap, AskOwners, TellOwners, SharePlan}
@@ -15,7 +16,7 @@ use Rattle.model_defs.specs.declared.phase.Plan.{Plan}
 use Rattle.model_defs.specs.Fitting.{IsFitting}
 use Rattle.model_defs.specs.Makers.{value_count}
 use Rattle.model_defs.specs.Transfers.{owner_map, same_plan}
-use Rattle.model_defs.specs.Phases.{send_phase}
+use Rattle.model_defs.specs.Phases.{phases, send_phase}
 use Rattle.model_defs.specs.Plans.{brought, remote}
 use Rattle.model_defs.specs.Letters.{asked, entries_about}
 use Rattle.model_defs.specs.Stages.{first_pieces, gathered_after, is_fixed, made_piece, rank_entries, stage_count, transfer_at}
@@ -116,3 +117,15 @@ module _ {S : Type 0} (R : Semiring S) (F : Conversions S) where
       (job : Job) (files : List File) (view : View S) (s : Stage) (phase : ℕ) (values : ℕ → Option (Table S))
       → IsEntering job files view s phase values → about_at job phase ≡ None
       → IsJobStage R F job files (record view { values = values }) (entering s)
+
+  -- A rank that entered the end has its piece of each value.
+  abbrev pub AllAreMadeAtTheEnd : Type 0
+  AllAreMadeAtTheEnd =
+      (job : Job) (files : List File) (view : View S) (s : Stage) (k : ℕ) → IsJobStage R F job files view s → s.phases < s.entered
+      → k < value_count job → view.values k ≡ Some (piece R F job files s.rank k s.absorbed)
+
+  -- It is the piece that the letters give in the order in which they came: their order by phase changes nothing.
+  abbrev pub PiecesAreByPhase : Type 0
+  PiecesAreByPhase =
+      (job : Job) (files : List File) (p k : ℕ) (given : List Letter)
+      → piece R F job files p k (absorbed (suc (length (phases job))) given) ≡ piece R F job files p k given

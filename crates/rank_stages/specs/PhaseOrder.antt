@@ -1,5 +1,5 @@
 -- Each thing is done in one phase, and after what it needs.
-use Rattle.std.specs.Prelude.{◌≡◌, ℕ, ◌<◌, false, List, Some, slice_get}
+use Rattle.std.specs.Prelude.{◌≡◌, ℕ, ◌<◌, false, ◌≤◌, length, List, Some, slice_get}
 use Rattle.mm_text.specs.Reading.{File}
 use Rattle.model_defs.specs.declared.job.Job.{Job}
 use Rattle.model_defs.specs.declared.phase.About.{About}
@@ -58,3 +58,7 @@ abbrev pub TransfersHavePlans : Type 0
 TransfersHavePlans =
     (job : Job) (files : List File) (k t n : ℕ) → IsValid job → IsFitting job files → send_phase job k t ≡ Some n
     → IsMadePlan job n (transfer_at job k t).plan
+
+-- A valid job has at most 6336 phases: 24 for each value.
+abbrev pub PhasesAreFew : Type 0
+PhasesAreFew = (job : Job) → IsValid job → length (phases job) ≤ 6336

@@ -1,10 +1,10 @@
 //! The laws of the stages of a rank. Each function has an empty body: what it proves is its contract.
 ghost use Rattle.rank_stages.specs.AbsorbLaws.{AnswersAreAbsorbed, ListsAreAbsorbed, NumbersAreAbsorbed, QuestionsAreAbsorbed, RegistrationsAreAbsorbed};
 ghost use Rattle.rank_stages.specs.DataLaws.{CopiesAreData, CopiesAreFull, CopiesHaveForm};
-ghost use Rattle.rank_stages.specs.EnterLaws.{AnswersAreEntered, EndIsEntered, FirstPiecesArePieces, FirstValuesAreMade, ListsAreEntered, NumbersAreEntered, PiecesAreMade, QuestionsAreEntered, RegistrationsAreEntered};
+ghost use Rattle.rank_stages.specs.EnterLaws.{AllAreMadeAtTheEnd, AnswersAreEntered, EndIsEntered, FirstPiecesArePieces, FirstValuesAreMade, ListsAreEntered, NumbersAreEntered, PiecesAreByPhase, PiecesAreMade, QuestionsAreEntered, RegistrationsAreEntered};
 ghost use Rattle.rank_stages.specs.LetterLaws.{NumbersArePacked, NumbersAreRead, PhasesHaveKinds, PlanLettersHaveForm, PlansArePacked, PlansAreRead, PlansComeFromAll, PlansGoToAll, RowsAreFew};
 ghost use Rattle.rank_stages.specs.OwnerLaws.{AnswersAreOwners, AnswersAreReadBack, DirectoriesAreWhole, EarlierPhasesAreLeft, HomesAreOne, IndicesAreWithin, IndicesHaveOneOwner, ListsAreTold, OwnersAreKnown, PhasesAreLeft, QuestionsAreWhole, RemotesAreByOwners, UniformMapsAreByRule};
-ghost use Rattle.rank_stages.specs.PhaseOrder.{PhasesArePrepared, PlansAreMadeOnce, TransfersAreSentOnce, TransfersHavePlans};
+ghost use Rattle.rank_stages.specs.PhaseOrder.{PhasesAreFew, PhasesArePrepared, PlansAreMadeOnce, TransfersAreSentOnce, TransfersHavePlans};
 ghost use Rattle.rank_stages.specs.StageLaws.{GatheredStays, LettersAreCombined, LocalRanksStand, MadeValuesStay, RanksBegin};
 
 use scalar_laws::Scalar;
@@ -62,10 +62,11 @@ pub fn local_ranks_stand<S: Scalar>()
 {}
 
 /// Each thing is done in one phase of a job: a map is registered once, a plan is made once, and the numbers of a transfer are
-/// sent once.
+/// sent once. A valid job has few phases.
 pub fn phases_are_once()
     ensures plans { PlansAreMadeOnce }
     ensures transfers { TransfersAreSentOnce }
+    ensures few { PhasesAreFew }
 {}
 
 /// Each phase comes after those that it needs: owners are asked for once their map is registered, a plan is made once the
@@ -85,12 +86,14 @@ pub fn letters_are_absorbed<S: Scalar>()
     ensures numbers { NumbersAreAbsorbed S.semiring S.conversions }
 {}
 
-/// A value is made of the rank's pieces of the values before it and of what it gathered, and the values that are made are
-/// the first ones.
+/// A value is made of the rank's pieces of the values before it and of what it gathered. The values that are made are the
+/// first ones, and at the end all. The pieces are those of the letters in the order in which they came.
 pub fn values_are_made<S: Scalar>()
     ensures made { PiecesAreMade S.semiring S.conversions }
     ensures before { FirstPiecesArePieces S.semiring S.conversions }
     ensures first { FirstValuesAreMade S.semiring S.conversions }
+    ensures end { AllAreMadeAtTheEnd S.semiring S.conversions }
+    ensures by_phase { PiecesAreByPhase S.semiring S.conversions }
 {}
 
 /// A phase that is entered adds one thing to what a rank keeps beside the values that are made by now, by what the phase is
