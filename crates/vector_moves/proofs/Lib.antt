@@ -3,3 +3,4 @@ pub mod Came
 pub mod Sent
 pub mod Absorbing
 pub mod Wanted
+pub mod Reserved

