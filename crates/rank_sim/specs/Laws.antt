@@ -25,7 +25,8 @@ use Rattle.rank_sim.specs.Writable.{IsWritable}
 -- order of the deliveries.
 abbrev pub CompleteRunsShowEval : {S : Type 0} → Semiring S → Conversions S → Type 0
 CompleteRunsShowEval R F =
-    (job : Job) (files : List File) (order : Order) (begun now : WireState) (answer : Result End RunFault) → IsValid job → IsFitting job files
+    (job : Job) (files : List File) (order : Order) (begun now : WireState) (answer : Result End RunFault)
+    → IsValid job → IsFitting job files
     → IsRan R F job files order begun now answer → IsTrue begun.is_honest
     → Shows F job files (eval R F job files (pick_of job files (deliveries (job_protocol R F job files) order))) answer
 
@@ -43,7 +44,8 @@ local_ending _ = Complete
 
 -- Every order of a job without letters ends so.
 abbrev pub LocalOrdersEnd : {S : Type 0} → Semiring S → Conversions S → Type 0
-LocalOrdersEnd R F = (job : Job) (files : List File) (order : Order) → IsLocalJob job → ending (job_protocol R F job files) order ≡ local_ending order
+LocalOrdersEnd R F =
+    (job : Job) (files : List File) (order : Order) → IsLocalJob job → ending (job_protocol R F job files) order ≡ local_ending order
 
 -- No letter is given to a rank of such a job, over any wire.
 abbrev pub LocalRunsHaveNoLetters : {S : Type 0} → Semiring S → Conversions S → Type 0
@@ -54,7 +56,8 @@ LocalRunsHaveNoLetters R F =
 -- Whatever the wire, and whatever is picked, a run of such a job shows the values on the global data.
 abbrev pub LocalRunsShowEval : {S : Type 0} → Semiring S → Conversions S → Type 0
 LocalRunsShowEval R F =
-    (job : Job) (files : List File) (order : Order) (begun now : WireState) (answer : Result End RunFault) → IsValid job → IsFitting job files → IsLocalJob job
+    (job : Job) (files : List File) (order : Order) (begun now : WireState) (answer : Result End RunFault)
+    → IsValid job → IsFitting job files → IsLocalJob job
     → IsRan R F job files order begun now answer → (pick : Pick) → Shows F job files (eval R F job files pick) answer
 
 -- The sheets of the values of such a job can be written.

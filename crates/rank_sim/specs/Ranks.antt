@@ -29,10 +29,12 @@ pub record IsRunInput {S : Type 0} (F : Conversions S) (job : Job) (files : List
   pub numbers : HaveNumbers F job files
 
 -- The ranks of the job, each of which has worked, and was given all letters to it, of these.
-pub record AreFinished {S : Type 0} (R : Semiring S) (F : Conversions S) (job : Job) (files : List File) (letters : List Letter) (ranks : List (Rank S)) : Type 0 where
+pub record AreFinished {S : Type 0} (R : Semiring S) (F : Conversions S) (job : Job) (files : List File) (letters : List Letter)
+    (ranks : List (Rank S)) : Type 0 where
   pub input : IsRunInput F job files
   pub many : length ranks ≡ job.ranks
-  pub stands : (p : ℕ) → p < job.ranks → StandsAt (IsRank R F) ranks p (at_rest (job_protocol R F job files) p (given_to p (firsts letters)))
+  pub stands : (p : ℕ) → p < job.ranks
+      → StandsAt (IsRank R F) ranks p (at_rest (job_protocol R F job files) p (given_to p (firsts letters)))
   pub finished : (p : ℕ) → p < job.ranks → IsFinished (at_rest (job_protocol R F job files) p (given_to p (firsts letters)))
 
 -- they are the ranks of the job, and finished

@@ -4,14 +4,14 @@ use Rattle.scalar_laws.specs.Semiring.{Semiring}
 use Rattle.scalar_laws.specs.Conversions.{Conversions}
 use Rattle.mm_text.specs.Reading.{File}
 use Rattle.outside.specs.declared.name.Name.{Name}
-use Rattle.outside.specs.Letters.{no_letters}
+use Rattle.outside.specs.Letters.{Letters, no_letters}
 use Rattle.outside.specs.MailRoom.{names_of}
 use Rattle.peers.specs.Protocols.{Letter, firsts, flies}
 use Rattle.schedule.specs.declared.order.Order.{Order}
 use Rattle.schedule.specs.Orders.{Complete, Ending, Left, Wrong, deliveries, ending}
 use Rattle.message_play.specs.Plays.{IsCourse, WireState}
 use Rattle.model_defs.specs.declared.job.Job.{Job}
-use Rattle.model_defs.specs.Machine.{gathered_value, job_protocol}
+use Rattle.model_defs.specs.Machine.{gathered_value, job_protocol, letter_content}
 use Rattle.model_defs.specs.Pieces.{Value}
 use Rattle.model_defs.specs.Sheets.{is_any_over, sheets_of}
 use Rattle.model_defs.specs.Traffic.{letter_lines, phase_lines_of}
@@ -50,7 +50,8 @@ EndsAs ending (Err fault.WireFault) = Unit {0}
 EndsAs ending (Err fault.NoMem) = Unit {0}
 
 -- what a job shows where its values are these: its sheets, its phases and its letters
-pub record IsOutcome {S : Type 0} (F : Conversions S) (job : Job) (files : List File) (values : Each (Value S)) (outcome : Outcome) : Type 0 where
+pub record IsOutcome {S : Type 0} (F : Conversions S) (job : Job) (files : List File) (values : Each (Value S)) (outcome : Outcome)
+    : Type 0 where
   pub sheets : outcome.sheets.items ≡ sheets_of F job values
   pub phases : outcome.phases.items ≡ phase_lines_of job
   pub letters : outcome.letters.items ≡ letter_lines job files
@@ -70,6 +71,11 @@ module _ {S : Type 0} (R : Semiring S) (F : Conversions S) (job : Job) (files : 
   abbrev pub gathered_values : List Letter → Each (Value S)
   gathered_values letters v = gathered_value R F job files v (firsts letters)
 
+  -- the letters in flight after these, as their senders made them
+  abbrev pub in_flight_after : List Letter → Letters
+  in_flight_after letters n =
+      if flies (job_protocol R F job files) (names_of letters) n then Some (letter_content R F job files n (firsts letters)) else None
+
   -- A run in an order, since the wire was as `begun`: the letters given are a run of the job's letters, and their names are
   -- the first that the order delivers. Where neither the wire nor memory failed they are all of these, exactly the letters in
   -- flight are pending, as their senders made them, and the answer says how the order ends. Where that is complete, nothing is
@@ -80,8 +86,7 @@ module _ {S : Type 0} (R : Semiring S) (F : Conversions S) (job : Job) (files : 
     pub rest : List Name
     pub first_of : names_of letters ++ rest ≡ deliveries (job_protocol R F job files) order
     pub whole : is_settled answer ≡ true → names_of letters ≡ deliveries (job_protocol R F job files) order
-    pub pends : is_settled answer ≡ true → (n : Name)
-        → now.pending n ≡ (if flies (job_protocol R F job files) (names_of letters) n then Some ((job_protocol R F job files).content n (firsts letters)) else None)
+    pub pends : is_settled answer ≡ true → (n : Name) → now.pending n ≡ in_flight_after letters n
     pub ends : EndsAs (ending (job_protocol R F job files) order) answer
     pub none_left : is_complete answer ≡ true → now.pending ≡ no_letters
     pub shows : Shows F job files (gathered_values letters) answer

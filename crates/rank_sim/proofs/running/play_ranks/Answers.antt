@@ -11,6 +11,7 @@ use Rattle.rank_sim.proofs.running.play_ranks.Goals as goal
 
 pub play-requires : goal.play-requires
 play-requires g c κs lives =
+    -- a rank lives as long as the numbers that it holds
     let own = lives.0 in
     let none = ⊑_static _ in
     let values = ⊑_meet _ _ _ (⊑_meet _ _ _ (⊑_meet _ _ _ own none) none) none in
