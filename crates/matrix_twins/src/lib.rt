@@ -17,7 +17,7 @@ mod random;
 #[cfg(test)]
 mod tests;
 #[cfg(test)]
-mod tests_cases;
+mod tests_matrices;
 
 pub use fill::filled;
 pub use operations::{combination_at, number_at, product_at, turned};

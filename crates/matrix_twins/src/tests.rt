@@ -1,11 +1,7 @@
-//! The fast programs beside their plain twins, on a few hundred small random matrices: every place is compared.
-ghost use Rattle.std.specs.Prelude.{◌<◌, length};
-
-use crate::tests_cases::{Case, OWNERS, SIZE, random_case, random_fill, random_number};
-use crate::{Sequence, combination_at, number_at, product_at, turned};
-use crs_graph::{CrsGraph, GraphFill};
+//! The fast programs beside their plain twins, on a few hundred small random matrices: products and sums. Every place is
+//! compared.
+use crate::{Sequence, combination_at, filled, number_at, product_at, turned};
 use crs_matrix::{CrsMatrix, MatrixFill};
-use distributor::DistSource;
 use map_core::{Gid, LocalMap};
 use multivector::MultiVector;
 use scalar_laws::{Scalar, Weighed};
@@ -18,141 +14,106 @@ use tables::Cell;
 use transpose::local_transpose;
 
 /// How many random matrices each test takes.
-const CASES: u64 = 300;
+pub const CASES: u64 = 300;
 
-/// Whether a cell has the column.
-fn has_column(cells: &[Cell<Weighed>], col: Gid) -> bool {
-    for at in 0..cells.len() {
-        if cells[at].col == col {
-            return true;
-        }
-    }
-    false
+/// All global indices are below this.
+pub const SIZE: Gid = 9;
+
+/// The owners of the columns of a matrix, which ascend.
+pub const OWNERS: [u32; 9] = [2, 0, 1, 0, 2, 1, 1, 0, 2];
+
+/// Cells in the order in which they were inserted, and the matrix that they make.
+#[derive(Drop)]
+struct Inserted {
+    cells: Vec<Cell<Weighed>>,
+    fill: MatrixFill<Weighed>,
 }
 
-/// The owner of a column: columns that ascend have the owners of the table, in turn.
-fn owner_of(cells: &[Cell<Weighed>], col: Gid) -> Option<u32> {
-    let mut place = 0usize;
-    for gid in 0..col {
-        if has_column(cells, gid) {
-            place = place.wrapping_add(1);
-        }
-    }
-    OWNERS.get(place).copied()
+/// The cells of a matrix, which is completed with a domain.
+#[derive(Drop)]
+pub struct Case {
+    pub domain: Rc<LocalMap>,
+    pub cells: Vec<Cell<Weighed>>,
+    pub matrix: CrsMatrix<Weighed>,
 }
 
-/// Where a column stands among the columns of a column map: those of the domain in its order, then the others by owner, then
-/// by index.
-fn order_of(domain: &LocalMap, cells: &[Cell<Weighed>], col: Gid) -> (u32, Gid) {
-    match (domain.local_of(col), owner_of(cells, col)) {
-        (Some(lid), _) => (0, lid as Gid),
-        (None, Some(owner)) => (owner.wrapping_add(1), col),
-        (None, None) => (u32::MAX, col),
+/// A small number of either sign, a zero, a number that weighs more than its magnitude, or Over.
+pub fn random_number(sequence: &mut Sequence) -> Weighed {
+    match sequence.below(12) {
+        0 => Weighed::zero(),
+        1 => Weighed::new(0, u128::MAX),
+        2 => Weighed::new(1, 1 << 126),
+        _ => {
+            let value = sequence.below(19) as i128 - 9;
+            Weighed::new(value, value.unsigned_abs())
+        }
     }
 }
 
-/// Whether a map has the columns of the cells in their order.
-fn is_column_map(map: &LocalMap, domain: &LocalMap, cells: &[Cell<Weighed>]) -> bool {
-    let mut last = None;
-    for lid in 0..map.len() {
-        let Some(gid) = map.global_of(lid) else {
-            return false;
-        };
-        let order = Some(order_of(domain, cells, gid));
-        if !has_column(cells, gid) || last >= order {
-            return false;
-        }
-        last = order;
-    }
+/// Some of the indices, in any order.
+fn random_map(alloc: Global, sequence: &mut Sequence) -> Result<Rc<LocalMap>, Fail> {
+    let mut list = Vec::new(alloc);
     for gid in 0..SIZE {
-        if has_column(cells, gid) != map.local_of(gid).is_some() {
-            return false;
+        if sequence.below(4) > 0 {
+            let at = sequence.below(list.len() as u64 + 1) as usize;
+            list.insert(at, gid)?;
         }
     }
-    true
+    if list.len() > 1000 {
+        return Err(Fail::new("too many indices"));
+    }
+    Ok(LocalMap::from_list(alloc, &list)?)
 }
 
-/// Whether two structures are the same.
-fn is_same_graph(a: &CrsGraph, b: &CrsGraph) -> bool {
-    let rows = a.row_map().len();
-    if rows != b.row_map().len() || !a.col_map().same_list(b.col_map()) {
-        return false;
-    }
-    for lid in 0..rows {
-        if a.row(lid) != b.row(lid) || a.row_by_index(lid) != b.row_by_index(lid) {
-            return false;
+/// Up to 30 cells on the rows of a map: some places come more than once, some rows have none.
+fn random_cells_on(
+    alloc: Global,
+    sequence: &mut Sequence,
+    rows: &LocalMap,
+) -> Result<Vec<Cell<Weighed>>, AllocError> {
+    let mut cells = Vec::new(alloc);
+    for _ in 0..sequence.below(31) {
+        let lid = sequence.below(SIZE) as u32;
+        if let Some(row) = rows.global_of(lid) {
+            let col = sequence.below(SIZE);
+            let value = random_number(sequence);
+            cells.push(Cell { row, col, value })?;
         }
-        if a.offset(lid) != b.offset(lid) {
-            return false;
-        }
     }
-    a.places() == b.places()
+    Ok(cells)
 }
 
-/// Whether the columns and the numbers of a row are those of the cells, in the order of the column map.
-fn is_row(a: &CrsMatrix<Weighed>, lid: u32, cells: &[Cell<Weighed>]) -> bool
-    requires known { lid < length a.now.graph.rows }
-{
-    let columns = a.graph().row(lid);
-    let numbers = a.row(lid);
-    let cols = a.graph().col_map();
-    let row = a.row_map().global_of(lid).unwrap_or(SIZE);
-    let mut at = 0usize;
-    for col in 0..cols.len() {
-        let number = number_at(cells, row, cols.global_of(col).unwrap_or(SIZE));
-        if number.is_some() {
-            if columns.get(at).copied() != Some(col) || numbers.get(at).copied() != number {
-                return false;
-            }
-            at = at.wrapping_add(1);
-        }
-    }
-    columns.len() == at
+/// Random cells on the rows of a map, and their matrix.
+fn random_fill(
+    alloc: Global,
+    sequence: &mut Sequence,
+    rows: &Rc<LocalMap>,
+) -> Result<Inserted, Fail> {
+    let cells = random_cells_on(alloc, sequence, rows)?;
+    let fill = filled(alloc, rows.clone()?, &cells)?;
+    Ok(Inserted { cells, fill })
 }
 
-/// Whether a matrix has the numbers of the cells, row by row and place by place.
-fn is_matrix(a: &CrsMatrix<Weighed>, cells: &[Cell<Weighed>]) -> bool {
-    for lid in 0..a.row_map().len() {
-        if !is_row(a, lid, cells) {
-            return false;
-        }
+/// The matrix, completed with a domain.
+fn complete(fill: MatrixFill<Weighed>, domain: &LocalMap) -> Result<CrsMatrix<Weighed>, Fail> {
+    let count = fill.columns()?.len();
+    if count > OWNERS.len() {
+        return Err(Fail::new("too many columns"));
     }
-    for row in 0..SIZE {
-        for col in 0..SIZE {
-            if a.get(row, col) != number_at(cells, row, col) {
-                return false;
-            }
-        }
-    }
-    true
+    Ok(fill.fill_complete(domain, &OWNERS[..count])?)
 }
 
-/// Whether the cells of an entry of a source are those of the list, ascending by column.
-fn is_entry<A: DistSource<Weighed>>(source: &A, lid: u32, cells: &[Cell<Weighed>]) -> bool
-    requires known { lid < length (A.entries source.now) }
-{
-    let row = source.gid(lid);
-    let count = source.count(lid);
-    let mut at = 0u64;
-    for col in 0..SIZE {
-        if let Some(value) = number_at(cells, row, col) {
-            if at >= count || source.cell(lid, at) != (col, value) {
-                return false;
-            }
-            at = at.wrapping_add(1);
-        }
-    }
-    count == at
-}
-
-/// Whether the entries of a matrix are those of the cells.
-fn has_entries(a: &CrsMatrix<Weighed>, cells: &[Cell<Weighed>]) -> bool {
-    for lid in 0..a.row_map().len() {
-        if !is_entry(a, lid, cells) {
-            return false;
-        }
-    }
-    true
+/// A random matrix with a random domain.
+pub fn random_case(alloc: Global, sequence: &mut Sequence) -> Result<Case, Fail> {
+    let rows = random_map(alloc, sequence)?;
+    let domain = random_map(alloc, sequence)?;
+    let inserted = random_fill(alloc, sequence, &rows)?;
+    let matrix = complete(inserted.fill, &domain)?;
+    Ok(Case {
+        domain,
+        cells: inserted.cells,
+        matrix,
+    })
 }
 
 /// Whether a matrix under construction has the numbers of the cells, and no other place.
@@ -165,90 +126,6 @@ fn is_fill(fill: &MatrixFill<Weighed>, cells: &[Cell<Weighed>]) -> bool {
         }
     }
     true
-}
-
-/// The structure of the places of a case, which are inserted one by one.
-fn structure(alloc: Global, case: &Case) -> Result<Rc<CrsGraph>, Fail> {
-    let mut fill = GraphFill::new(alloc, case.matrix.row_map().clone()?)?;
-    for at in 0..case.cells.len() {
-        let cell = case.cells[at];
-        let is_new = number_at(&case.cells[..at], cell.row, cell.col).is_none();
-        if fill.insert(cell.row, cell.col)? != is_new {
-            return Err(Fail::new("whether a place is new"));
-        }
-    }
-    let count = fill.columns()?.len();
-    if count > OWNERS.len() {
-        return Err(Fail::new("too many columns"));
-    }
-    Ok(fill.fill_complete(&case.domain, &OWNERS[..count])?)
-}
-
-#[test]
-fn structures_and_matrices(rt: HostRuntime) -> Result<(), Fail> {
-    let mut sequence = Sequence::new(1);
-    for _ in 0..CASES {
-        let case = random_case(rt.alloc(), &mut sequence)?;
-        let graph = structure(rt.alloc(), &case)?;
-        assert!(rt; is_same_graph(&graph, case.matrix.graph()));
-        assert!(rt; is_column_map(graph.col_map(), &case.domain, &case.cells));
-        assert!(rt; is_matrix(&case.matrix, &case.cells));
-        assert!(rt; has_entries(&case.matrix, &case.cells));
-    }
-    Ok(())
-}
-
-/// Adds a number to a random place or replaces the one that is there, in a matrix and among its cells, where it has the place.
-fn change(
-    a: &mut CrsMatrix<Weighed>,
-    cells: &mut Vec<Cell<Weighed>>,
-    sequence: &mut Sequence,
-) -> Result<bool, AllocError> {
-    let row = sequence.below(SIZE);
-    let col = sequence.below(SIZE);
-    let value = random_number(sequence);
-    let is_there = number_at(cells, row, col).is_some();
-    let is_changed = if sequence.below(2) == 0 {
-        a.sum_into(row, col, value).is_ok()
-    } else {
-        for cell in cells.iter_mut() {
-            if cell.row == row && cell.col == col {
-                cell.value = Weighed::zero();
-            }
-        }
-        a.replace(row, col, value).is_ok()
-    };
-    if is_there {
-        cells.push(Cell { row, col, value })?;
-    }
-    Ok(is_changed == is_there)
-}
-
-/// Makes some changes to a copy of the matrix of a case, and scales it.
-fn is_changed_alike(alloc: Global, sequence: &mut Sequence, case: &Case) -> Result<bool, Fail> {
-    let mut a = case.matrix.copy()?;
-    let mut cells = Vec::from_slice(alloc, &case.cells)?;
-    for _ in 0..sequence.below(20) {
-        if !change(&mut a, &mut cells, sequence)? {
-            return Ok(false);
-        }
-    }
-    let alpha = random_number(sequence);
-    a.scale(alpha);
-    for cell in cells.iter_mut() {
-        cell.value = alpha.mul(cell.value);
-    }
-    Ok(is_matrix(&a, &cells) && is_matrix(&case.matrix, &case.cells))
-}
-
-#[test]
-fn changes(rt: HostRuntime) -> Result<(), Fail> {
-    let mut sequence = Sequence::new(2);
-    for _ in 0..CASES {
-        let case = random_case(rt.alloc(), &mut sequence)?;
-        assert!(rt; is_changed_alike(rt.alloc(), &mut sequence, &case)?);
-    }
-    Ok(())
 }
 
 /// A vector on a map with random numbers.

@@ -1,7 +1,7 @@
 use Rattle.std.proofs.Common.{length, ap, ◌∙◌, arith}
 use Rattle.crs_matrix.specs.ByRow.{by_row}
 use Rattle.sparse_product.proofs.Links.{entries-known}
-use Rattle.matrix_twins.proofs.tests.has_entries.Goals as goal
+use Rattle.matrix_twins.proofs.tests_matrices.has_entries.Goals as goal
 
 pub is_entry-requires : goal.is_entry-requires
 is_entry-requires c =
