@@ -1,5 +1,7 @@
 //! The matrices that are given.
-ghost use Rattle.std.specs.Prelude.{◌≡◌, ◌<◌, ◌≤◌, ℕ, IfOk, length};
+ghost use Rattle.std.specs.Prelude.{◌≡◌, ◌<◌, ◌≤◌, ℕ, IfOk, length, unsigned_abs};
+ghost use Rattle.scalar_laws.specs.Number.{new_number};
+ghost use Rattle.scalar_laws.specs.Weighed.{num_of};
 ghost use Rattle.tables.specs.Tables.{table_of, AreWithin};
 ghost use Rattle.map_core.specs.Layouts.{rank_list};
 ghost use Rattle.map_core.specs.Uniform.{uniform_layout};
@@ -71,7 +73,9 @@ fn cell(row: u32, col: u32, value: i8) -> Cell<Weighed>
 }
 
 /// The number of a value, which weighs its magnitude.
-pub fn whole(value: i128) -> Weighed {
+pub fn whole(value: i128) -> Weighed
+    ensures number { num_of result ≡ new_number value (unsigned_abs value) }
+{
     Weighed::new(value, value.unsigned_abs())
 }
 
