@@ -1,0 +1,5 @@
+pub mod Faults
+pub mod Runs
+pub mod Writable
+pub mod Laws
+pub mod Ranks
