@@ -12,6 +12,9 @@
 
 mod fault;
 mod messages;
+mod output;
+mod refusals;
+mod run;
 mod show;
 mod shown;
 mod system;
