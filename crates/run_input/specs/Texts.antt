@@ -27,8 +27,14 @@ abbrev pub TellsTextIfRead : Option Source → Option ReadText → Type 0
 TellsTextIfRead told None = Unit {0}
 TellsTextIfRead told (Some read) = TellsText told read
 
+-- a schedule that was read has another name than the job
+abbrev pub IsApart : ReadText → Option ReadText → Type 0
+IsApart job None = Unit {0}
+IsApart job (Some read) = read.name.now ≡ job.name.now → ⊥
+
+-- the texts of the job and of the schedule, where one was read, under two names
 abbrev pub TellsTexts : Option Source → Texts → Type 0
-TellsTexts told texts = TellsText told texts.job_text × TellsTextIfRead told texts.schedule
+TellsTexts told texts = TellsText told texts.job_text × (TellsTextIfRead told texts.schedule × IsApart texts.job_text texts.schedule)
 
 -- Each source that has the texts has the job under its name, and the order that the words ask for.
 pub record AreRead (name : List ℕ) (asked : DeliveryOrder) (texts : Texts) : Type 0 where

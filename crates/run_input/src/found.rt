@@ -23,7 +23,7 @@ use std::alloc::Global;
 /// The fault where a file of a job is not read. These are the names of its files, one of which the fault takes.
 fn files_fault<'a>(names: Vec<Text>, fault: FilesFault) -> InputFault<'a>
     requires { NamesOneOf names.items fault }
-    ensures { result ≡ files_fault_at fault }
+    ensures { result ≡ files_fault_at fault.entry }
 {
     match fault {
         FilesFault::Memory => InputFault::Memory,
@@ -50,7 +50,10 @@ fn read_beside<'a, F: Files>(
     ensures gives { SomeHeldSource (F.told files.old) held.now (λ source.
         Answers found_files (file_names_read job.now source) (files_at source job.now) result) }
 {
-    let names = copied_names(alloc, job)?;
+    let names = match copied_names(alloc, job) {
+        Ok(names) => names,
+        Err(_) => return Err(InputFault::Memory),
+    };
     match read_files(alloc, files, held, job) {
         Ok(found) => Ok(found),
         Err(fault) => Err(files_fault(names, fault)),
@@ -97,7 +100,12 @@ pub(crate) fn read_found<'a, F: Files>(
         × Answers found_files (file_names_read texts.now.job source)
         (fitting_files_at source texts.now.job_text.name.now texts.now.job) result) }
 {
-    let found = read_job_files(alloc, files, texts)?;
-    compare(alloc, texts.job_text.name, &texts.job, &found)?;
-    Ok(found)
+    let found = match read_job_files(alloc, files, texts) {
+        Ok(found) => found,
+        Err(fault) => return Err(fault),
+    };
+    match compare(alloc, texts.job_text.name, &texts.job, &found) {
+        Ok(()) => Ok(found),
+        Err(fault) => Err(fault),
+    }
 }

@@ -49,20 +49,28 @@ pub fn read_given<'a, F: Files>(
     ensures reads { ReadsMany F.told F.faults files.old files.new result }
 
     // What is answered is what one source gives: the job, its files and the order, or the first refusal.
-    ensures gives { SomeSource (F.told files.old) (λ source. GivesInput source job.now (order_view order) result) }
+    ensures gives { SomeSource (F.told files.old) (λ source. GivesInput source job.now (order_view order.entry) result) }
 
     // What is given can be run: the job is valid and by now one without letters, and the files fit it.
     ensures valid { IfOk result (λ given. IsValid given.job.value) }
     ensures local { IfOk result (λ given. IsLocalJob given.job.value) }
     ensures fitting { IfOk result (λ given. IsFitting given.job.value (map file_of given.files.items)) }
 {
-    let texts = read_texts(alloc, files, job, order)?;
-    let found = read_found(alloc, files, &texts)?;
+    let texts = match read_texts(alloc, files, job, order) {
+        Ok(texts) => texts,
+        Err(fault) => return Err(fault),
+    };
+    let found = match read_found(alloc, files, &texts) {
+        Ok(found) => found,
+        Err(fault) => return Err(fault),
+    };
     let Texts { job, order, .. } = texts;
-    let job = Rc::new(alloc, job)?;
-    Ok(Given {
-        job,
-        files: found,
-        order,
-    })
+    match Rc::new(alloc, job) {
+        Ok(job) => Ok(Given {
+            job,
+            files: found,
+            order,
+        }),
+        Err(_) => Err(InputFault::Memory),
+    }
 }

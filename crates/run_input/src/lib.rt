@@ -22,6 +22,8 @@ mod given;
 mod name;
 mod names;
 mod sizes;
+#[cfg(test)]
+mod tests;
 mod texts;
 
 pub use fault::{InputFault, TextFault};

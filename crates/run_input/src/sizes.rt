@@ -34,6 +34,15 @@ fn value_name(alloc: Global, job: &Job, value: u32) -> Result<Text, AllocError>
     )
 }
 
+/// The number of the value that a fault names.
+fn value_of(fault: FitFault) -> u32
+    ensures { fault ≡ FitFault.SizeMismatch result }
+{
+    match fault {
+        FitFault::SizeMismatch { value } => value,
+    }
+}
+
 /// Compares the sizes of the files with those that the job of this name states.
 pub(crate) fn compare<'a>(
     alloc: Global,
@@ -47,12 +56,12 @@ pub(crate) fn compare<'a>(
 {
     match fit(job, files) {
         Ok(()) => Ok(()),
-        Err(FitFault::SizeMismatch { value }) => {
-            let value = value_name(alloc, job, value)?;
-            Err(InputFault::Refused {
+        Err(fault) => match value_name(alloc, job, value_of(fault)) {
+            Ok(value) => Err(InputFault::Refused {
                 name: FileName::Word(name),
                 fault: TextFault::SizeMismatch { value },
-            })
-        }
+            }),
+            Err(_) => Err(InputFault::Memory),
+        },
     }
 }

@@ -11,7 +11,7 @@ ghost use Rattle.run_input.specs.Faults.{job_fault_at, schedule_fault_at};
 ghost use Rattle.run_input.specs.Orders.{order_given};
 ghost use Rattle.run_input.specs.Reading.{ReadsMany};
 ghost use Rattle.run_input.specs.Sources.{SomeSource};
-ghost use Rattle.run_input.specs.Texts.{AreRead, GivesText, GivesTextIfRead, TellsText, TellsTextIfRead, TellsTexts};
+ghost use Rattle.run_input.specs.Texts.{AreRead, GivesText, GivesTextIfRead, IsApart, TellsText, TellsTextIfRead, TellsTexts};
 ghost use Rattle.run_input.specs.Walk.{input_of, job_at, or_refused, order_at, reads_for, schedule_names};
 
 use crate::front::read_front;
@@ -114,8 +114,14 @@ fn read_job_text<'a, F: Files>(
     ensures fault { IfErr result (λ fault. SomeSource (F.told files.old) (λ source.
         Stops (name.now ∷ []) (job_at source name.now) fault)) }
 {
-    let bytes = read_front(alloc, files, name, MOST_JOB_BYTES)?;
-    let job = job_in(alloc, name, &bytes)?;
+    let bytes = match read_front(alloc, files, name, MOST_JOB_BYTES) {
+        Ok(bytes) => bytes,
+        Err(fault) => return Err(fault),
+    };
+    let job = match job_in(alloc, name, &bytes) {
+        Ok(job) => job,
+        Err(fault) => return Err(fault),
+    };
     Ok((job, ReadText { name, bytes }))
 }
 
@@ -129,17 +135,27 @@ fn read_listed<'a, F: Files>(
     requires { TellsText (F.told files.old) job.now }
     ensures reads { ReadsMany F.told F.faults files.old files.new result }
     ensures told { IfOk result (λ read. TellsTextIfRead (F.told files.old) read.1) }
+    ensures apart { IfOk result (λ read. IsApart job.now read.1) }
     ensures order { IfOk result (λ read. (source : Source) → GivesText source job.now → GivesTextIfRead source read.1
         → order_at source (listed name.now) ≡ Ok (order_given read.0)) }
     ensures fault { IfErr result (λ fault. SomeSource (F.told files.old) (λ source.
         GivesText source job.now × Stops (name.now ∷ []) (order_at source (listed name.now)) fault)) }
 {
     if name == job.name {
-        let entries = entries_in(alloc, name, &job.bytes)?;
+        let entries = match entries_in(alloc, name, &job.bytes) {
+            Ok(entries) => entries,
+            Err(fault) => return Err(fault),
+        };
         return Ok((Order::Listed(entries), None));
     }
-    let bytes = read_front(alloc, files, name, MOST_SCHEDULE_BYTES)?;
-    let entries = entries_in(alloc, name, &bytes)?;
+    let bytes = match read_front(alloc, files, name, MOST_SCHEDULE_BYTES) {
+        Ok(bytes) => bytes,
+        Err(fault) => return Err(fault),
+    };
+    let entries = match entries_in(alloc, name, &bytes) {
+        Ok(entries) => entries,
+        Err(fault) => return Err(fault),
+    };
     Ok((Order::Listed(entries), Some(ReadText { name, bytes })))
 }
 
@@ -153,10 +169,11 @@ fn read_order<'a, F: Files>(
     requires { TellsText (F.told files.old) job.now }
     ensures reads { ReadsMany F.told F.faults files.old files.new result }
     ensures told { IfOk result (λ read. TellsTextIfRead (F.told files.old) read.1) }
+    ensures apart { IfOk result (λ read. IsApart job.now read.1) }
     ensures order { IfOk result (λ read. (source : Source) → GivesText source job.now → GivesTextIfRead source read.1
-        → order_at source (order_view asked) ≡ Ok (order_given read.0)) }
+        → order_at source (order_view asked.entry) ≡ Ok (order_given read.0)) }
     ensures fault { IfErr result (λ fault. SomeSource (F.told files.old) (λ source.
-        GivesText source job.now × Stops (schedule_names (order_view asked)) (order_at source (order_view asked)) fault)) }
+        GivesText source job.now × Stops (schedule_names (order_view asked.entry)) (order_at source (order_view asked.entry)) fault)) }
 {
     match asked {
         OrderWord::Fifo => Ok((Order::Fifo, None)),
@@ -175,13 +192,19 @@ pub(crate) fn read_texts<'a, F: Files>(
 ) -> Result<Texts<'a>, InputFault<'a>>
     ensures reads { ReadsMany F.told F.faults files.old files.new result }
     ensures told { IfOk result (λ texts. TellsTexts (F.told files.old) texts) }
-    ensures read { IfOk result (λ texts. AreRead name.now (order_view asked) texts) }
+    ensures read { IfOk result (λ texts. AreRead name.now (order_view asked.entry) texts) }
     ensures valid { IfOk result (λ texts. IsValid texts.job) }
     ensures fault { IfErr result (λ fault. SomeSource (F.told files.old) (λ source.
-        Stops (reads_for source name.now (order_view asked)) (input_of source name.now (order_view asked)) fault)) }
+        Stops (reads_for source name.now (order_view asked.entry)) (input_of source name.now (order_view asked.entry)) fault)) }
 {
-    let (job, job_text) = read_job_text(alloc, files, name)?;
-    let (order, schedule) = read_order(alloc, files, &job_text, asked)?;
+    let (job, job_text) = match read_job_text(alloc, files, name) {
+        Ok(read) => read,
+        Err(fault) => return Err(fault),
+    };
+    let (order, schedule) = match read_order(alloc, files, &job_text, asked) {
+        Ok(read) => read,
+        Err(fault) => return Err(fault),
+    };
     Ok(Texts {
         job,
         order,

@@ -1,0 +1,10 @@
+pub mod Fronts
+pub mod Among
+pub mod Stopping
+pub mod Counting
+pub mod Walking
+pub mod Holding
+pub mod Copies
+pub mod Misfits
+pub mod Accepting
+pub mod Giving

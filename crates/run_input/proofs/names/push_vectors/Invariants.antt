@@ -1,0 +1,8 @@
+use Rattle.std.proofs.Common.{◌≡◌, ◌++◌, take}
+use Rattle.std.specs.List.{flat_map}
+use Rattle.model_defs.specs.Given.{origin_files}
+use Rattle.run_input.proofs.names.push_vectors.Given as goal
+
+abbrev pub invariant-loop-spec : goal.invariant-loop-spec
+invariant-loop-spec l =
+    l.names.items ≡ l.initial.names.items ++ flat_map (λ spec. origin_files spec.from) (take l.spec-index l.spec-items)
