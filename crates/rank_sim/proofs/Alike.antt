@@ -1,5 +1,5 @@
 -- What is shown of values depends on their parts below the number of ranks alone.
-use Rattle.std.proofs.Common.{◌≡◌, ℕ, zero, suc, ◌+◌, ◌<◌, ◌≤◌, Bool, true, false, cond, ◌||◌, List, [], ◌∷◌, ◌++◌, map, filter, length, Result, Ok, Err, None, Some, All, if◌then◌else◌, refl, sym, ap, ◌∙◌, subst, arith, length-append}
+use Rattle.std.proofs.Common.{◌≡◌, ℕ, zero, suc, ◌+◌, ◌<◌, ◌≤◌, Bool, true, false, cond, ◌||◌, List, [], ◌∷◌, ◌++◌, map, filter, length, Result, Ok, Err, None, Some, All, if◌then◌else◌, refl, sym, ap, ◌∙◌, arith, length-append}
 use Rattle.std.specs.List.{flat_map, list_any}
 use Rattle.std.proofs.lemmas.List.{length-map}
 use Rattle.scalar_laws.specs.Conversions.{Conversions}
@@ -8,7 +8,7 @@ use Rattle.mm_text.specs.Reading.{File}
 use Rattle.model_defs.specs.declared.job.Job.{Job}
 use Rattle.model_defs.specs.declared.job.Step.{Step}
 use Rattle.model_defs.specs.declared.job.Step.TheVariants as step
-use Rattle.model_defs.specs.Makers.{Maker, GivenVector, GivenParts, GivenMatrix, Made, gives_value, value_count}
+use Rattle.model_defs.specs.Makers.{GivenVector, GivenParts, GivenMatrix, Made, gives_value, value_count}
 use Rattle.model_defs.specs.Maps.{size_of}
 use Rattle.model_defs.specs.Pieces.{Value}
 use Rattle.model_defs.specs.Plans.{width_of}
@@ -23,7 +23,8 @@ use Rattle.model_defs.specs.Valid.{ArePrintable, IsPrintable, IsValid, given_cou
 use Rattle.rank_sim.specs.declared.ends.End.{End}
 use Rattle.rank_sim.specs.declared.ends.End.TheVariants as end
 use Rattle.rank_sim.specs.declared.ends.RunFault.{RunFault}
-use Rattle.rank_sim.specs.Runs.{IsOutcome, Shows}
+use Rattle.rank_sim.specs.Ranks.{PrintsBelow}
+use Rattle.rank_sim.specs.Runs.{Shows}
 
 -- ---- lists of numbers
 
@@ -36,11 +37,6 @@ any-below f g n zero m l h = refl
 any-below f g n (suc k) m l h = λ t. h n (omega arith) t || any-below f g (n + 1) k m (omega arith) h t
 
 -- ---- which values are printed
-
--- what a statement prints is one of the first n values
-abbrev pub PrintsBelow : ℕ → Step → Type 0
-PrintsBelow n (step.Print v) = v < n
-PrintsBelow n _ = Unit {0}
 
 prints-low : (job : Job) (k n : ℕ) (s : Step) → IsPrintable job k s → k ≤ n → PrintsBelow n s
 prints-low job k n (step.Print v) h l = let low = h.0 in omega arith

@@ -1,5 +1,5 @@
 -- A run that is complete gave all letters, so over an honest wire its values are those on the global data.
-use Rattle.std.proofs.Common.{◌≡◌, ℕ, ◌<◌, Bool, true, false, cond, List, [], ◌∷◌, Result, Ok, Err, None, Some, refl, sym, ap, ◌∙◌, subst}
+use Rattle.std.proofs.Common.{◌≡◌, Bool, true, false, cond, List, [], ◌∷◌, Result, Ok, Err, None, Some, refl, sym, ap, ◌∙◌, subst}
 use Rattle.std.specs.Prelude.{IsTrue}
 use Rattle.std.specs.List.{list_all}
 use Rattle.scalar_laws.specs.Semiring.{Semiring, IsSemiring}
@@ -8,7 +8,7 @@ use Rattle.mm_text.specs.Reading.{File}
 use Rattle.outside.specs.declared.name.Name.{Name}
 use Rattle.outside.specs.Letters.{no_letters}
 use Rattle.outside.specs.MailRoom.{names_of}
-use Rattle.peers.specs.Protocols.{Letter, Protocol, IsProtocol, firsts, flies, stands_in}
+use Rattle.peers.specs.Protocols.{Protocol, firsts, flies, stands_in}
 use Rattle.peers.specs.Runs.{has_all}
 use Rattle.schedule.specs.declared.order.Order.{Order}
 use Rattle.schedule.specs.Orders.{deliveries}
@@ -20,7 +20,6 @@ use Rattle.model_defs.specs.CompleteRuns.{IsCompleteRun}
 use Rattle.model_defs.specs.Eval.{eval}
 use Rattle.model_defs.specs.Fitting.{IsFitting}
 use Rattle.model_defs.specs.Machine.{job_protocol}
-use Rattle.model_defs.specs.Makers.{value_count}
 use Rattle.model_defs.specs.Picks.{pick_of}
 use Rattle.model_defs.specs.Pieces.{Value}
 use Rattle.model_defs.specs.Turns.{Each}
@@ -30,7 +29,6 @@ use Rattle.model_defs.proofs.Protocols.{jobs_are_protocols}
 use Rattle.rank_sim.specs.declared.ends.End.{End}
 use Rattle.rank_sim.specs.declared.ends.End.TheVariants as end
 use Rattle.rank_sim.specs.declared.ends.RunFault.{RunFault}
-use Rattle.rank_sim.specs.Laws.{CompleteRunsShowEval}
 use Rattle.rank_sim.specs.Runs.{IsRan, Shows, gathered_values, is_complete, is_settled}
 use Rattle.rank_sim.proofs.Alike.{shows-alike}
 

@@ -1,5 +1,5 @@
 -- Where a protocol has no letter, none is given, and each order ends at once.
-use Rattle.std.proofs.Common.{◌≡◌, Bool, true, false, cond, ◌||◌, ◌&&◌, List, [], ◌∷◌, refl, sym, ap, ◌∙◌}
+use Rattle.std.proofs.Common.{◌≡◌, true, false, cond, ◌&&◌, List, [], ◌∷◌, refl, sym, ap, ◌∙◌}
 use Rattle.std.specs.Prelude.{not}
 use Rattle.std.specs.List.{filter}
 use Rattle.outside.specs.declared.name.Name.{Name}
@@ -9,7 +9,7 @@ use Rattle.peers.specs.Runs.{EachComes}
 use Rattle.schedule.specs.declared.order.Entry.{Entry}
 use Rattle.schedule.specs.declared.order.Order.{Order}
 use Rattle.schedule.specs.declared.order.Order.TheVariants as order
-use Rattle.schedule.specs.Orders.{Complete, Ending, Wrong, deliveries, ending, ending_after, ending_of, listed_ending}
+use Rattle.schedule.specs.Orders.{Complete, Wrong, deliveries, ending, ending_after, ending_of, listed_ending}
 use Rattle.rank_sim.specs.Laws.{ending_without_letters, local_ending}
 
 module _ (P : Protocol) (none : P.names ≡ []) where

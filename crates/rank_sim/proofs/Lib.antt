@@ -6,3 +6,7 @@ pub mod Overs
 pub mod Writables
 pub mod RankResults
 pub mod Finished
+pub mod PiecesShown
+pub mod Ran
+pub mod Begun
+pub mod WeighedJobs

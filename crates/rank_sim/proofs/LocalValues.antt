@@ -1,39 +1,28 @@
 -- Jobs without letters: whatever was given and whatever is picked, each rank's pieces are those of the values on the global
 -- data.
-use Rattle.std.proofs.Common.{◌≡◌, ℕ, zero, suc, ◌<◌, ◌≤◌, ◌⊎◌, inl, inr, Bool, true, false, cond, ◌||◌, ◌&&◌, eqb, ltb, List, [], ◌∷◌, length, Option, None, Some, refl, sym, ap, ◌∙◌, subst, arith}
-use Rattle.std.specs.Prelude.{is_some}
+use Rattle.std.proofs.Common.{◌≡◌, ℕ, zero, suc, ◌<◌, Bool, false, cond, eqb, List, [], length, refl, ap, ◌∙◌, arith}
 use Rattle.std.specs.List.{list_all}
-use Rattle.std.proofs.lemmas.Bool.{cases_lt, ltb-true}
 use Rattle.scalar_laws.specs.Semiring.{Semiring, IsSemiring}
 use Rattle.scalar_laws.specs.Conversions.{Conversions, AreConversions}
-use Rattle.tables.specs.Tables.{Table, only_rows, sum_of}
-use Rattle.tables.specs.Indices.{each_rank}
-use Rattle.map_core.specs.Layouts.{owner}
-use Rattle.map_core.proofs.Owners.{owner-has, owner-none, owner-total}
 use Rattle.mm_text.specs.Reading.{File}
-use Rattle.peers.specs.Protocols.{Letter, firsts, stands_in}
+use Rattle.peers.specs.Protocols.{Letter, stands_in}
 use Rattle.model_defs.specs.declared.job.Job.{Job}
 use Rattle.model_defs.specs.declared.job.Step.TheVariants as step
 use Rattle.model_defs.specs.CompleteRuns.{IsCompleteRun}
 use Rattle.model_defs.specs.Eval.{Pick, eval, first_values, make_value}
 use Rattle.model_defs.specs.Fitting.{IsFitting}
-use Rattle.model_defs.specs.Laws.{HasRowLaws, IsFormed, IsOwned, has_cells}
-use Rattle.model_defs.specs.Letters.{letter_names}
+use Rattle.model_defs.specs.Laws.{HasRowLaws, IsFormed, IsOwned}
 use Rattle.model_defs.specs.Local.{IsLocalJob}
 use Rattle.model_defs.specs.Machine.{arrivals, gathered_value, job_protocol, piece, united}
 use Rattle.model_defs.specs.Makers.{Maker, GivenVector, GivenParts, GivenMatrix, Made, maker_of, value_count}
-use Rattle.model_defs.specs.Maps.{has_index, is_mapped, layout_of, size_of}
 use Rattle.model_defs.specs.Picks.{pick_of}
-use Rattle.model_defs.specs.Pieces.{Value, has_row, piece_of}
-use Rattle.model_defs.specs.Plans.{width_of}
+use Rattle.model_defs.specs.Pieces.{Value, piece_of}
 use Rattle.model_defs.specs.Shapes.{is_by_rank, shape}
-use Rattle.model_defs.specs.Stages.{Arrivals, stage_count}
+use Rattle.model_defs.specs.Stages.{stage_count}
 use Rattle.model_defs.specs.Transfers.{transfers, transfers_by}
 use Rattle.model_defs.specs.Turns.{Each}
 use Rattle.model_defs.specs.Valid.{IsValid}
 use Rattle.model_defs.proofs.AllRows.{machine_is_eval, row_laws}
-use Rattle.model_defs.proofs.Filters.{both}
-use Rattle.model_defs.proofs.Mapped.{mapped-below}
 use Rattle.model_defs.proofs.Whole.{are_before, pieces-are}
 use Rattle.rank_core.proofs.Finished.{no-names}
 use Rattle.rank_core.proofs.LocalJobs.{none-by-transfers, pieces-alike}

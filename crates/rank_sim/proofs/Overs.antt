@@ -1,11 +1,10 @@
 -- Jobs without letters: a cell of some value is over exactly where one of some rank's piece is.
-use Rattle.std.proofs.Common.{◌≡◌, ℕ, zero, suc, ◌+◌, ◌<◌, ◌≤◌, ◌⊎◌, inl, inr, Bool, true, false, cond, ◌||◌, ◌&&◌, eqb, ltb, List, [], ◌∷◌, length, Option, None, Some, refl, sym, ap, ◌∙◌, subst, arith}
+use Rattle.std.proofs.Common.{◌≡◌, ℕ, zero, suc, ◌+◌, ◌<◌, ◌≤◌, inl, inr, Bool, true, false, cond, ◌||◌, ltb, List, Option, None, Some, refl, sym, ap, ◌∙◌, subst, arith}
 use Rattle.std.specs.Prelude.{is_some}
 use Rattle.std.specs.List.{list_any}
 use Rattle.std.proofs.lemmas.Bool.{cases_lt, ltb-true, or_left, or_right}
 use Rattle.scalar_laws.specs.Semiring.{Semiring, IsSemiring}
 use Rattle.scalar_laws.specs.Conversions.{Conversions, AreConversions}
-use Rattle.tables.specs.Tables.{Table, HasPlace}
 use Rattle.tables.specs.Indices.{count_from}
 use Rattle.tables.proofs.Places.{list_any-cells_of}
 use Rattle.map_core.specs.Layouts.{owner}

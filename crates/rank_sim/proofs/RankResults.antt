@@ -1,5 +1,5 @@
 -- What finished ranks have: their pieces of the letters given to all.
-use Rattle.std.proofs.Common.{◌≡◌, ℕ, zero, suc, ◌+◌, ◌<◌, ◌≤◌, ◌⊎◌, inl, inr, Bool, true, false, cond, ◌&&◌, eqb, List, [], ◌∷◌, ◌++◌, map, filter, length, get_or, Option, None, Some, refl, sym, ap, ◌∙◌, subst, arith}
+use Rattle.std.proofs.Common.{◌≡◌, ℕ, zero, suc, ◌+◌, ◌<◌, ◌⊎◌, inl, inr, Bool, true, false, ◌&&◌, eqb, List, [], ◌∷◌, ◌++◌, map, length, Option, None, Some, refl, sym, ap, ◌∙◌, subst, arith}
 use Rattle.std.specs.Prelude.{slice_get}
 use Rattle.std.specs.Option.{option_map}
 use Rattle.std.proofs.lemmas.Bool.{cases_order}
@@ -8,12 +8,12 @@ use Rattle.scalar_laws.specs.Semiring.{Semiring}
 use Rattle.scalar_laws.specs.Conversions.{Conversions, AreConversions}
 use Rattle.mm_text.specs.Reading.{File}
 use Rattle.peers.specs.Peers.{PeerState, at_rest}
-use Rattle.peers.specs.Protocols.{Letter, firsts}
+use Rattle.peers.specs.Protocols.{Letter}
 use Rattle.message_play.specs.Plays.{StandsAt, given_to}
 use Rattle.model_defs.specs.declared.job.Job.{Job}
-use Rattle.model_defs.specs.Machine.{arrivals, job_protocol, letters_of, letter_table, piece, tables_of_phase}
+use Rattle.model_defs.specs.Machine.{job_protocol, letters_of, letter_table, piece, tables_of_phase}
 use Rattle.model_defs.specs.Phases.{send_phase}
-use Rattle.model_defs.specs.Stages.{Arrivals, pieces}
+use Rattle.model_defs.specs.Stages.{pieces}
 use Rattle.model_defs.proofs.Filters.{filter-ext, filter-filter}
 use Rattle.rank_core.specs.Results.{result_table}
 

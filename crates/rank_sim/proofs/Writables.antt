@@ -1,5 +1,5 @@
 -- The sheets of a job without letters can be written.
-use Rattle.std.proofs.Common.{◌≡◌, ℕ, zero, suc, ◌+◌, ◌*◌, ◌^◌, ◌<◌, ◌≤◌, ◌⊎◌, inl, inr, Bool, true, false, not, cond, ◌||◌, ◌&&◌, eqb, ltb, List, [], ◌∷◌, ◌++◌, map, filter, length, get_or, Option, None, Some, All, if◌then◌else◌, lt-ltb, refl, sym, ap, ◌∙◌, subst, arith, length-append, nat_lt}
+use Rattle.std.proofs.Common.{◌≡◌, ℕ, zero, suc, ◌+◌, ◌*◌, ◌<◌, ◌≤◌, inl, inr, Bool, true, false, not, cond, ◌||◌, ◌&&◌, eqb, ltb, List, [], ◌∷◌, ◌++◌, map, filter, length, get_or, Option, None, Some, Ok, All, if◌then◌else◌, lt-ltb, refl, sym, ap, ◌∙◌, subst, arith, length-append, nat_lt}
 use Rattle.std.specs.Prelude.{is_some}
 use Rattle.std.specs.List.{concat, flat_map, list_all}
 use Rattle.std.proofs.lemmas.Bool.{cases_lt, and_parts, ltb-true}
@@ -19,6 +19,7 @@ use Rattle.tables.proofs.Orders.{before-to}
 use Rattle.map_core.proofs.Members.{stands-filter}
 use Rattle.mm_text.specs.Reading.{File}
 use Rattle.mm_text.specs.Written.{ArePlacesInOrder, ArePlacesWithin, IsBefore}
+use Rattle.peers.specs.Protocols.{Letter, firsts}
 use Rattle.model_defs.specs.declared.job.Job.{Job}
 use Rattle.model_defs.specs.declared.job.MapForm.{MapForm}
 use Rattle.model_defs.specs.declared.job.MapForm.TheVariants.{Uniform, Blocks, Cyclic, Lists}
@@ -34,7 +35,7 @@ use Rattle.model_defs.specs.Laws.{IsFormed, has_cells}
 use Rattle.model_defs.specs.Limits.{IsSmallForm, most_columns, most_indices}
 use Rattle.model_defs.specs.Local.{IsLocalJob}
 use Rattle.model_defs.specs.Makers.{Maker, GivenVector, GivenParts, GivenMatrix, Made, gives_value, maker_of, makers, value_count}
-use Rattle.model_defs.specs.Maps.{is_mapped, layout_of, lists_of, map_at, no_map, size_of}
+use Rattle.model_defs.specs.Maps.{is_mapped, lists_of, map_at, no_map, size_of}
 use Rattle.model_defs.specs.Pieces.{Value}
 use Rattle.model_defs.specs.Plans.{width_of}
 use Rattle.model_defs.specs.Shapes.{is_dense, shape, shape_by}
@@ -43,9 +44,13 @@ use Rattle.model_defs.specs.ShowText.{shown_cell}
 use Rattle.model_defs.specs.Turns.{Each}
 use Rattle.model_defs.specs.Valid.{IsValid, IsValidMaker}
 use Rattle.model_defs.proofs.KnownShapes.{shape-of-made}
-use Rattle.rank_sim.specs.Writable.{HasPlacesInOrder, IsWholeArray, IsWritable}
-use Rattle.rank_sim.proofs.Alike.{PrintsBelow, prints-known}
-use Rattle.rank_sim.proofs.LocalValues.{formed-is}
+use Rattle.rank_sim.specs.declared.ends.End.{End}
+use Rattle.rank_sim.specs.declared.ends.End.TheVariants as end
+use Rattle.rank_sim.specs.Runs.{ShowsEnd, gathered_values}
+use Rattle.rank_sim.specs.Writable.{HasPlacesInOrder, HasWritableSheets, IsWholeArray, IsWritable}
+use Rattle.rank_sim.specs.Ranks.{PrintsBelow}
+use Rattle.rank_sim.proofs.Alike.{all-sheets-alike, prints-known}
+use Rattle.rank_sim.proofs.LocalValues.{formed-is, gathered-is-eval}
 
 -- ---- sizes
 
@@ -257,3 +262,14 @@ pub sheets-writable : {S : Type 0} {R : Semiring S} (L : IsSemiring R) {F : Conv
     → All IsWritable (sheets_of F job (eval R F job files pick))
 sheets-writable {R = R} L {F = F} FL job files pick valid fit local =
     steps-writable F job (eval R F job files pick) valid (λ k l. formed-is L FL job files valid fit local pick k l) job.steps (prints-known job valid)
+
+-- so are those that a run shows
+pub writable-end : {S : Type 0} {R : Semiring S} (L : IsSemiring R) {F : Conversions S} (FL : AreConversions F) (job : Job) (files : List File) (letters : List Letter) → IsValid job → IsFitting job files → IsLocalJob job
+    → (x : End) → ShowsEnd F job files (gathered_values R F job files letters) x → HasWritableSheets (Ok x)
+writable-end {R = R} L {F = F} FL job files letters valid fit local (end.Done outcome) shows =
+    subst (All IsWritable)
+    (sym (shows.0.sheets ∙ all-sheets-alike F job valid.some (gathered_values R F job files letters) (eval R F job files (λ v i j. 0)) valid
+    (λ v p l m. gathered-is-eval L FL job files valid fit local (λ v i j. 0) (firsts letters) v p l m)))
+    (sheets-writable L FL job files (λ v i j. 0) valid fit local)
+writable-end L FL job files letters valid fit local end.Over shows = tt
+writable-end L FL job files letters valid fit local (end.Undelivered names) shows = tt

@@ -1,9 +1,8 @@
 -- What holds of every run.
-use Rattle.std.specs.Prelude.{◌≡◌, ◌<◌, ℕ, true, false, IsTrue, All, Result, List, [], ◌∷◌}
+use Rattle.std.specs.Prelude.{◌≡◌, IsTrue, All, Result, List, [], ◌∷◌}
 use Rattle.scalar_laws.specs.Semiring.{Semiring}
 use Rattle.scalar_laws.specs.Conversions.{Conversions}
 use Rattle.mm_text.specs.Reading.{File}
-use Rattle.peers.specs.Protocols.{Letter}
 use Rattle.schedule.specs.declared.order.Entry.{Entry}
 use Rattle.schedule.specs.declared.order.Order.{Order}
 use Rattle.schedule.specs.declared.order.Order.TheVariants as order
@@ -14,13 +13,12 @@ use Rattle.model_defs.specs.Eval.{Pick, eval}
 use Rattle.model_defs.specs.Fitting.{IsFitting}
 use Rattle.model_defs.specs.Local.{IsLocalJob}
 use Rattle.model_defs.specs.Machine.{job_protocol}
-use Rattle.model_defs.specs.Makers.{value_count}
 use Rattle.model_defs.specs.Picks.{pick_of}
-use Rattle.model_defs.specs.Sheets.{is_any_over, sheets_of}
+use Rattle.model_defs.specs.Sheets.{sheets_of}
 use Rattle.model_defs.specs.Valid.{IsValid}
 use Rattle.rank_sim.specs.declared.ends.End.{End}
 use Rattle.rank_sim.specs.declared.ends.RunFault.{RunFault}
-use Rattle.rank_sim.specs.Runs.{IsRan, Shows, gathered_values, is_complete}
+use Rattle.rank_sim.specs.Runs.{IsRan, Shows}
 use Rattle.rank_sim.specs.Writable.{IsWritable}
 
 -- Over an honest wire a complete run shows the values on the global data. Of numbers that meet in a cell one is picked by the

@@ -3,3 +3,4 @@ pub mod Runs
 pub mod Writable
 pub mod Laws
 pub mod Ranks
+pub mod Stated

@@ -11,6 +11,8 @@ use Rattle.peers.specs.Peers.{at_rest}
 use Rattle.peers.specs.Protocols.{Letter, firsts}
 use Rattle.message_play.specs.Plays.{StandsAt, given_to}
 use Rattle.model_defs.specs.declared.job.Job.{Job}
+use Rattle.model_defs.specs.declared.job.Step.{Step}
+use Rattle.model_defs.specs.declared.job.Step.TheVariants as step
 use Rattle.model_defs.specs.Fitting.{IsFitting}
 use Rattle.model_defs.specs.Local.{IsLocalJob}
 use Rattle.model_defs.specs.Machine.{job_protocol, piece}
@@ -36,6 +38,11 @@ pub record AreFinished {S : Type 0} (R : Semiring S) (F : Conversions S) (job : 
 -- they are the ranks of the job, and finished
 abbrev pub HaveFinished : {S : Type 0} → Semiring S → Conversions S → Job → List (Rank S) → Type 0
 HaveFinished R F job ranks = (files : List File) × ((letters : List Letter) × AreFinished R F job files letters ranks)
+
+-- what a statement prints is one of the first n values
+abbrev pub PrintsBelow : ℕ → Step → Type 0
+PrintsBelow n (step.Print v) = v < n
+PrintsBelow n _ = Unit {0}
 
 -- these are the cells of the ranks' pieces of a value
 abbrev pub ArePieces : {S : Type 0} → Semiring S → Conversions S → Job → List File → List Letter → ℕ → List (Vec (Cell S)) → Type 0

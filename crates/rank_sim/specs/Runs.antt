@@ -1,12 +1,12 @@
 -- The run of all ranks of a job over a wire: the letters given, how it ends, and what it shows.
-use Rattle.std.specs.Prelude.{◌≡◌, ℕ, Bool, true, false, if◌then◌else◌, Result, Ok, Err, List, ◌++◌, None, Some}
+use Rattle.std.specs.Prelude.{◌≡◌, Bool, true, false, if◌then◌else◌, Result, Ok, Err, List, ◌++◌, None, Some}
 use Rattle.scalar_laws.specs.Semiring.{Semiring}
 use Rattle.scalar_laws.specs.Conversions.{Conversions}
 use Rattle.mm_text.specs.Reading.{File}
 use Rattle.outside.specs.declared.name.Name.{Name}
 use Rattle.outside.specs.Letters.{no_letters}
 use Rattle.outside.specs.MailRoom.{names_of}
-use Rattle.peers.specs.Protocols.{Letter, Protocol, firsts, flies}
+use Rattle.peers.specs.Protocols.{Letter, firsts, flies}
 use Rattle.schedule.specs.declared.order.Order.{Order}
 use Rattle.schedule.specs.Orders.{Complete, Ending, Left, Wrong, deliveries, ending}
 use Rattle.message_play.specs.Plays.{IsCourse, WireState}
@@ -56,10 +56,14 @@ pub record IsOutcome {S : Type 0} (F : Conversions S) (job : Job) (files : List 
   pub letters : outcome.letters.items ≡ letter_lines job files
 
 -- What a complete run says of the values: they are shown where none has a cell that is over.
+abbrev pub ShowsEnd : {S : Type 0} → Conversions S → Job → List File → Each (Value S) → End → Type 0
+ShowsEnd F job files values (end.Done outcome) = IsOutcome F job files values outcome × (is_any_over F job values ≡ false)
+ShowsEnd F job files values end.Over = is_any_over F job values ≡ true
+ShowsEnd F job files values (end.Undelivered names) = Unit {0}
+
 abbrev pub Shows : {S : Type 0} → Conversions S → Job → List File → Each (Value S) → Result End RunFault → Type 0
-Shows F job files values (Ok (end.Done outcome)) = IsOutcome F job files values outcome × (is_any_over F job values ≡ false)
-Shows F job files values (Ok end.Over) = is_any_over F job values ≡ true
-Shows F job files values _ = Unit {0}
+Shows F job files values (Ok x) = ShowsEnd F job files values x
+Shows F job files values (Err f) = Unit {0}
 
 module _ {S : Type 0} (R : Semiring S) (F : Conversions S) (job : Job) (files : List File) where
   -- the ranks' pieces of each value together, where these letters were given: of each name the first one counts

@@ -1,5 +1,5 @@
 -- Which sheets can be written as Matrix Market text.
-use Rattle.std.specs.Prelude.{◌≡◌, ◌<◌, ◌^◌, ◌*◌, Result, Ok, Err, All, length}
+use Rattle.std.specs.Prelude.{◌≡◌, ◌<◌, ◌^◌, ◌*◌, Result, Ok, All, length}
 use Rattle.mm_text.specs.Written.{ArePlacesInOrder, ArePlacesWithin}
 use Rattle.model_defs.specs.declared.sheets.Sheet.{Sheet}
 use Rattle.model_defs.specs.declared.sheets.SheetKind.{SheetKind}

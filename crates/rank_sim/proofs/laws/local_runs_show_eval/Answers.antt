@@ -1,4 +1,3 @@
-use Rattle.std.proofs.Common.{ap, ◌∙◌, ◌≡◌}
 use Rattle.peers.specs.Protocols.{firsts}
 use Rattle.model_defs.specs.Eval.{eval}
 use Rattle.model_defs.specs.Machine.{job_protocol}

@@ -1,9 +1,8 @@
-use Rattle.std.proofs.Common.{◌≡◌, ◌<◌, ◌≤◌, false, length, get_or, Some, inl, inr, subst, sym, ap, ◌∙◌, arith}
+use Rattle.std.proofs.Common.{◌≡◌, Some, inl, inr, subst, sym, ap, ◌∙◌, arith}
 use Rattle.std.specs.Prelude.{slice_get}
 use Rattle.std.proofs.lemmas.Bool.{cases_lt}
 use Rattle.std.proofs.lemmas.Option.{slice_get-get_or, slice_get_within, same_Some}
-use Rattle.peers.specs.Peers.{PeerState}
-use Rattle.rank_core.specs.Ranks.{IsFinished, IsRank, is_over_there, result_table}
+use Rattle.rank_core.specs.Ranks.{IsRank}
 use Rattle.rank_sim.proofs.Finished.{finished-at, none-over, some-over}
 use Rattle.rank_sim.proofs.ranks.any_over.Goals as goal
 

@@ -1,11 +1,11 @@
-use Rattle.std.proofs.Common.{◌≡◌, ◌∙◌, ◌<◌, ◌+◌, ℕ, List, ap, sym, map, length, arith, subst}
+use Rattle.std.proofs.Common.{◌≡◌, ◌∙◌, ◌<◌, ◌+◌, ℕ, ap, sym, map, length, arith, subst}
 use Rattle.mm_text.specs.Reading.{file_of}
 use Rattle.peers.specs.Peers.{fresh}
 use Rattle.message_play.specs.Plays.{StandsAt}
 use Rattle.model_defs.specs.declared.job.Job.{Job}
 use Rattle.model_defs.specs.Machine.{job_protocol}
-use Rattle.rank_core.specs.declared.rank.Rank.{Rank}
 use Rattle.rank_core.specs.Ranks.{IsRank, IsRankInput}
+use Rattle.rank_share.specs.Shares.{share}
 use Rattle.rank_sim.proofs.RankResults.{length-push, stands-push}
 use Rattle.rank_sim.proofs.ranks.new_ranks.Goals as goal
 
@@ -23,7 +23,7 @@ loop-me-preserved g c =
       fitting = all.fitting;
       numbers = all.numbers;
       rank = let low = c.loop-me-test.true in omega arith;
-      given = c.in_ok-share.ensures.share;
+      given = c.in_ok-share.ensures.share ∙ ap (λ j. share j files c.loop-me.me) c.deref-in-loop-me.ensures;
     } in
     record {
       long = ap length c.in_ok-push.ensures.items ∙ length-push c.loop-me.ranks.items c.in_ok-start.field-0 c.loop-me.me c.loop-me.invariant.long;

@@ -10,5 +10,5 @@ abbrev pub invariant-loop-me : goal.invariant-loop-me
 invariant-loop-me g l = record {
   long : length l.ranks.items ≡ l.me;
   each : (k : ℕ) → k < l.me
-  → StandsAt (IsRank g.S.Scalar.semiring g.S.Scalar.conversions) l.ranks.items k (fresh (job_protocol g.S.Scalar.semiring g.S.Scalar.conversions l.job.value (map file_of l.files)) k);
+      → StandsAt (IsRank g.S.Scalar.semiring g.S.Scalar.conversions) l.ranks.items k (fresh (job_protocol g.S.Scalar.semiring g.S.Scalar.conversions l.job.value (map file_of l.files)) k);
 }

@@ -13,5 +13,5 @@ invariant-loop-rank g l = record {
   many : length l.pieces.items ≡ l.rank-index;
   in_order : All (λ piece. AreInOrder piece.items) l.pieces.items;
   cells : (job : Job) (files : List File) (letters : List Letter) → AreFinished g.S.Scalar.semiring g.S.Scalar.conversions job files letters l.ranks
-  → (p : ℕ) → p < l.rank-index → found (slice_index_or (map (λ piece. piece.items) l.pieces.items) p []) ≡ piece g.S.Scalar.semiring g.S.Scalar.conversions job files p l.value (firsts letters);
+      → (p : ℕ) → p < l.rank-index → found (slice_index_or (map (λ piece. piece.items) l.pieces.items) p []) ≡ piece g.S.Scalar.semiring g.S.Scalar.conversions job files p l.value (firsts letters);
 }
