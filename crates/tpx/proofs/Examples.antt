@@ -37,7 +37,7 @@ banner = line (codes "%%MatrixMarket matrix coordinate integer general")
 
 -- how `show` ends where each name has this text
 abbrev ends : List ℕ → Ending
-ends text = ending (command (codes "show" ∷ codes "2" ∷ codes "a.mtx" ∷ [])) (λ name. Some text)
+ends text = ending (command (codes "show" ∷ codes "2" ∷ codes "a.mtx" ∷ [])) (λ name. Some text) []
 
 abbrev shown : List ℕ → List ℕ
 shown text = written (ends text)

@@ -245,13 +245,13 @@ run-known told taken old now c settled before after r some h = absurd h
 
 -- where the ranks may have been played
 pub may-have : (c : RunCommand) (r : Result (Unit {0}) Fault) → HasPlayed r → MayHaveRun (Some (run c)) (result_status r)
-may-have c (Ok x) h = (λ e. absurd (omega arith), (λ e. absurd (omega arith), λ e. absurd (omega arith)))
-may-have c (Err Memory) h = (λ e. absurd (omega arith), (λ e. absurd (omega arith), λ e. absurd (omega arith)))
-may-have c (Err Unwritten) h = (λ e. absurd (omega arith), (λ e. absurd (omega arith), λ e. absurd (omega arith)))
-may-have c (Err (Undelivered names)) h = (λ e. absurd (omega arith), (λ e. absurd (omega arith), λ e. absurd (omega arith)))
-may-have c (Err Overflow) h = (λ e. absurd (omega arith), (λ e. absurd (omega arith), λ e. absurd (omega arith)))
-may-have c (Err (WrongLine line name)) h = (λ e. absurd (omega arith), (λ e. absurd (omega arith), λ e. absurd (omega arith)))
-may-have c (Err WireFailed) h = (λ e. absurd (omega arith), (λ e. absurd (omega arith), λ e. absurd (omega arith)))
+may-have c (Ok x) h = (λ e. absurd (omega arith), λ e. absurd (omega arith), λ e. absurd (omega arith))
+may-have c (Err Memory) h = (λ e. absurd (omega arith), λ e. absurd (omega arith), λ e. absurd (omega arith))
+may-have c (Err Unwritten) h = (λ e. absurd (omega arith), λ e. absurd (omega arith), λ e. absurd (omega arith))
+may-have c (Err (Undelivered names)) h = (λ e. absurd (omega arith), λ e. absurd (omega arith), λ e. absurd (omega arith))
+may-have c (Err Overflow) h = (λ e. absurd (omega arith), λ e. absurd (omega arith), λ e. absurd (omega arith))
+may-have c (Err (WrongLine line name)) h = (λ e. absurd (omega arith), λ e. absurd (omega arith), λ e. absurd (omega arith))
+may-have c (Err WireFailed) h = (λ e. absurd (omega arith), λ e. absurd (omega arith), λ e. absurd (omega arith))
 may-have c (Err NoCommand) h = absurd h
 may-have c (Err (Unread file)) h = absurd h
 may-have c (Err (Refused file f)) h = absurd h

@@ -106,11 +106,11 @@ touches-writing (Err f) P e = absurd (cc)
 -- the count of the file that the answer names rose
 module _ (before after : List ℕ → ℕ) where
   pub rose-reading : (told : Option Source) (name : List ℕ) (f : Fault) → StopsReading told name f →
-      ((let r : Result (Unit {0}) Fault = Err f in IsUnread r) → Rose (before name) (after name)) → RoseAt before after (Err f)
+      ((let r : Result (Unit {0}) Fault = Err f in IsUnread r) → Rose (before name) (after name)) → RoseAt before after (let r : Result (Unit {0}) Fault = Err f in r)
   rose-reading told name (Unread file) h r = subst (λ (n : List ℕ). Rose (before n) (after n)) (sym h) (r tt)
   rose-reading told name f h r = tt
 
-  pub rose-showing : (over : Bool) (f : Fault) → StopsShowing over f → RoseAt before after (Err f)
+  pub rose-showing : (over : Bool) (f : Fault) → StopsShowing over f → RoseAt before after (let r : Result (Unit {0}) Fault = Err f in r)
   rose-showing over (Unread file) h = absurd h
   rose-showing over f h = tt
 

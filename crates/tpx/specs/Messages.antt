@@ -58,8 +58,12 @@ undelivered_message names = undelivered_line (decimal (length names)) ++ flat_ma
 abbrev pub line_front : List ℕ → List ℕ
 line_front line = codes "tpx: line " ++ line ++ codes ": "
 
+-- and what stands behind it
+abbrev pub line_back : List ℕ
+line_back = codes " is not in flight" ++ 10 ∷ []
+
 abbrev pub wrong_line_message : ℕ → Name → List ℕ
-wrong_line_message line name = line_front (decimal line) ++ letter_text name ++ codes " is not in flight" ++ 10 ∷ []
+wrong_line_message line name = line_front (decimal line) ++ (letter_text name ++ line_back)
 
 abbrev pub wire_message : List ℕ
 wire_message = message_line (codes "wire failed")

@@ -53,11 +53,7 @@ fn write_values<'a, O: Sink>(out: &mut O, output: &Output) -> Result<(), Fault<'
 }
 
 /// Writes the traffic listing where it was asked for. Only `Unwritten` may come.
-fn write_listing<'a, O: Sink>(
-    out: &mut O,
-    output: &Output,
-    traffic: bool,
-) -> Result<(), Fault<'a>>
+fn write_listing<'a, O: Sink>(out: &mut O, output: &Output, traffic: bool) -> Result<(), Fault<'a>>
     ensures writes { Writes O.told O.faults out.old out.new (listed traffic output.now) result }
     ensures fault { IfErr result (λ fault. fault ≡ Fault.Unwritten) }
 {

@@ -1,11 +1,12 @@
 //! The top call: one command of the program.
-ghost use Rattle.std.specs.Prelude.{◌≡◌, ◌≤◌, ◌⊎◌, ℕ, List, None, IfErr, IsTrue, OnOk, map, string_bytes};
+ghost use Rattle.std.specs.Prelude.{◌≡◌, ◌≤◌, ◌⊎◌, ℕ, List, None, Some, IfErr, IsTrue, OnOk, map, string_bytes};
 ghost use Rattle.outside.specs.declared.name.Name.{Name};
 ghost use Rattle.outside.specs.Faults.{Rose};
 ghost use Rattle.message_play.specs.Plays.{wire_state};
 ghost use Rattle.run_input.specs.Sources.{SomeSource};
+ghost use Rattle.tpx.specs.Asked.{HasRanks, asked};
 ghost use Rattle.tpx.specs.Calls.{SomeCall, is_settled};
-ghost use Rattle.tpx.specs.Endings.{EndsWith, command_of, reads_of};
+ghost use Rattle.tpx.specs.Endings.{EndsWith, command_of, reads, reads_of};
 ghost use Rattle.tpx.specs.Faults.{result_status};
 ghost use Rattle.tpx.specs.Messages.{memory_message, overflow_message, unwritten_message, usage_message, wire_message};
 ghost use Rattle.tpx.specs.Steps.{Gives, IsNoCommand, IsUnread, IsWireFailed, MayHaveRun, RoseAt, Touches, UnreadIsAmong};
@@ -18,7 +19,40 @@ use crate::run::run_job;
 use crate::show::show;
 use crate::words::Asked;
 use outside::{Files, Sink, Wire};
-use std::alloc::Global;
+use std::alloc::{AllocError, Global};
+
+/// Runs this command.
+fn run_asked<'a, F: Files, W: Wire, O: Sink>(
+    alloc: Global,
+    command: Asked<'a>,
+    files: &mut F,
+    wire: &mut W,
+    out: &mut O,
+) -> Result<(), Fault<'a>>
+    requires nothing_pending { (name : Name) → W.pending wire.old name ≡ None }
+    requires ranks { HasRanks command }
+    ensures known { IsNoCommand result → ⊥ }
+    ensures gives { SomeCall (F.told files.old) (Some (asked command.entry)) (is_settled (result_status result)) (wire_state W.pending W.posted W.taken W.given W.is_honest wire.old) (wire_state W.pending W.posted W.taken W.given W.is_honest wire.new)
+        (Gives O.told out.old out.new result) }
+    ensures named { SomeSource (F.told files.old) (λ source. UnreadIsAmong (reads (Some (asked command.entry)) source) result) }
+    ensures same_files { F.told files.new ≡ F.told files.old }
+    ensures files_never_fall { (name : List ℕ) → F.faults files.old name ≤ F.faults files.new name }
+    ensures unread { RoseAt (F.faults files.old) (F.faults files.new) result }
+    ensures no_read_fault { IsUnread result ⊎ ((name : List ℕ) → F.faults files.new name ≡ F.faults files.old name) }
+    ensures untouched { Touches result ⊎ (out.new ≡ out.old) }
+    ensures unwritten { IfErr result (λ fault. fault ≡ Fault.Unwritten → Rose (O.faults out.old) (O.faults out.new)) }
+    ensures no_write_fault { OnOk result (O.faults out.new ≡ O.faults out.old) }
+    ensures out_never_falls { O.faults out.old ≤ O.faults out.new }
+    ensures no_wire_fault { IsWireFailed result ⊎ (W.faults wire.new ≡ W.faults wire.old) }
+    ensures wire_never_falls { W.faults wire.old ≤ W.faults wire.new }
+    ensures wire_fault { IsWireFailed result → IsTrue (is_run (Some (asked command.entry))) × Rose (W.faults wire.old) (W.faults wire.new) }
+    ensures same_wire { MayHaveRun (Some (asked command.entry)) (result_status result) ⊎ (wire.new ≡ wire.old) }
+{
+    match command {
+        Asked::Show(command) => show(alloc, command.ranks, command.file, files, out),
+        Asked::Run(command) => run_job(alloc, command, files, wire, out),
+    }
+}
 
 /// Runs the command of these words, those after the program's name.
 fn run_command<'a, F: Files, W: Wire, O: Sink>(
@@ -42,15 +76,15 @@ fn run_command<'a, F: Files, W: Wire, O: Sink>(
     ensures unwritten { IfErr result (λ fault. fault ≡ Fault.Unwritten → Rose (O.faults out.old) (O.faults out.new)) }
     ensures no_write_fault { OnOk result (O.faults out.new ≡ O.faults out.old) }
     ensures out_never_falls { O.faults out.old ≤ O.faults out.new }
-    ensures wire_fault { IsWireFailed result → IsTrue (is_run (command_of words.now)) × Rose (W.faults wire.old) (W.faults wire.new) }
     ensures no_wire_fault { IsWireFailed result ⊎ (W.faults wire.new ≡ W.faults wire.old) }
     ensures wire_never_falls { W.faults wire.old ≤ W.faults wire.new }
+    ensures wire_fault { IsWireFailed result → IsTrue (is_run (command_of words.now)) × Rose (W.faults wire.old) (W.faults wire.new) }
     ensures same_wire { MayHaveRun (command_of words.now) (result_status result) ⊎ (wire.new ≡ wire.old) }
 {
-    match Asked::read(alloc, words)? {
-        None => Err(Fault::NoCommand),
-        Some(Asked::Show(command)) => show(alloc, command.ranks, command.file, files, out),
-        Some(Asked::Run(command)) => run_job(alloc, command, files, wire, out),
+    match Asked::read(alloc, words) {
+        Ok(Some(command)) => run_asked(alloc, command, files, wire, out),
+        Ok(None) => Err(Fault::NoCommand),
+        Err(AllocError) => Err(Fault::Memory),
     }
 }
 
