@@ -1,31 +1,56 @@
 -- What the status of a command says, by its answer.
-use Rattle.std.proofs.Common.{◌≡◌, ◌⊎◌, inl, inr, ◌↔◌, ℕ, List, Option, Result, Ok, Err, OnOk, IfErr, refl, sym, ap, subst, arith}
-use Rattle.outside.specs.Faults.{Rose}
+use Rattle.std.proofs.Common.{◌≡◌, ◌⊎◌, inl, inr, ℕ, Bool, IsTrue, List, Option, Result, Ok, Err, OnOk, IfErr, refl, sym, ap, subst, arith}
 use Rattle.outside.specs.Reads.{Source}
+use Rattle.message_play.specs.Plays.{WireState}
+use Rattle.run_input.specs.Reading.{name_text}
+use Rattle.outside.specs.Faults.{Rose}
 use Rattle.tpx.specs.declared.fault.Fault.{Fault}
-use Rattle.tpx.specs.declared.fault.Fault.TheVariants.{Memory, NoCommand, Unread, Unwritten, Refused, Overflow}
-use Rattle.tpx.specs.Endings.{Ending, no_command, no_file, refused, overflow, writes, EndsWith}
+use Rattle.tpx.specs.declared.fault.Fault.TheVariants.{Memory, NoCommand, Unread, Unwritten, Refused, Undelivered, Overflow, WrongLine, WireFailed}
+use Rattle.tpx.specs.Calls.{SomeCall}
+use Rattle.tpx.specs.Endings.{Ending, no_command, no_file, refused, undelivered, overflow, wrong_line, writes, EndsWith, run_input}
 use Rattle.tpx.specs.Faults.{message_of, result_status}
-use Rattle.tpx.specs.Messages.{memory_message, overflow_message, unwritten_message, usage_message}
-use Rattle.tpx.specs.Steps.{Gives, IsNoCommand, IsUnread, RoseAt, Touches}
-use Rattle.tpx.specs.Streams.{Says, SaysRefusal, SaysUnread, TakesPart, TakesText}
+use Rattle.tpx.specs.Messages.{memory_message, overflow_message, unwritten_message, usage_message, wire_message}
+use Rattle.tpx.specs.Runs.{OnWire}
+use Rattle.tpx.specs.Steps.{Gives, IsNoCommand, IsUnread, IsWireFailed, RoseAt, Touches, UnreadIsAmong}
+use Rattle.tpx.specs.Streams.{Says, SaysRefusal, SaysUndelivered, SaysUnread, SaysWrongLine, TakesPart, TakesText}
+use Rattle.tpx.specs.Words.{Command}
 
 -- the answer of a command
 abbrev Ended : Type 0
 Ended = Result (Unit {0}) Fault
 
--- a status that comes where there is a command
-any_file : (e : Ending) (s : ℕ) → (e ≡ no_command → ⊥) → (s ≡ 3) ⊎ (s ≡ 1) → EndsWith e s
-any_file no_command s h is = absurd (h refl)
-any_file (no_file name) s h is = is
-any_file (refused name fault) s h (inl is) = inr (inl is)
-any_file (refused name fault) s h (inr is) = inr (inr is)
-any_file overflow s h (inl is) = inr (inl is)
-any_file overflow s h (inr is) = inr (inr is)
-any_file (writes text) s h (inl is) = inr (inr (inl is))
-any_file (writes text) s h (inr is) = inr (inr (inr is))
+-- what passes of a call
+pub SomeCall-weaker : (told : Option Source) (c : Option Command) (settled settled' : Bool) (before after : WireState) (P Q : Ending → Type 0) → settled ≡ settled' →
+    ((e : Ending) → P e → Q e) → SomeCall told c settled before after P → SomeCall told c settled' before after Q
+SomeCall-weaker told c settled settled' before after P Q same h some = record {
+  source = some.source;
+  agrees = some.agrees;
+  letters = some.letters;
+  wire = subst (λ s. OnWire (run_input c some.source) s before after some.letters) same some.wire;
+  passes = h _ some.passes;
+  on_global_data = λ honest. h _ (some.on_global_data honest);
+}
 
-module _ {S : Type 0} (told : S → Option (List ℕ)) (old now : S) (names : List (List ℕ)) where
+-- a status that may come with every ending, and one with every command
+any_memory : (e : Ending) (s : ℕ) → s ≡ 1 → EndsWith e s
+any_memory no_command s is = inr is
+any_memory (no_file name) s is = inr is
+any_memory (refused name fault) s is = inr (inr is)
+any_memory (undelivered names) s is = inr (inr (inr is))
+any_memory overflow s is = inr (inr (inr is))
+any_memory (wrong_line line name) s is = inr (inr (inr is))
+any_memory (writes text) s is = inr (inr (inr (inr is)))
+
+any_unread : (e : Ending) (s : ℕ) → (e ≡ no_command → ⊥) → s ≡ 3 → EndsWith e s
+any_unread no_command s h is = absurd (h refl)
+any_unread (no_file name) s h is = inl is
+any_unread (refused name fault) s h is = inr (inl is)
+any_unread (undelivered names) s h is = inr (inr (inl is))
+any_unread overflow s h is = inr (inr (inl is))
+any_unread (wrong_line line name) s h is = inr (inr (inl is))
+any_unread (writes text) s h is = inr (inr (inr (inl is)))
+
+module _ {S : Type 0} (told : S → Option (List ℕ)) (old now : S) where
   whole-ends : (e : Ending) (s : ℕ) → s ≡ 0 → TakesText told old now e → EndsWith e s
   whole-ends (writes text) s is h = inl is
   whole-ends e s is h = absurd h
@@ -34,48 +59,59 @@ module _ {S : Type 0} (told : S → Option (List ℕ)) (old now : S) (names : Li
   part-ends (writes text) s is h = inr (inl is)
   part-ends e s is h = absurd h
 
-  pub ends : (e : Ending) (r : Ended) (s : ℕ) → s ≡ result_status r → Gives told old now names e r → EndsWith e s
-  ends e (Ok x) s is h = whole-ends e s is h
-  ends e (Err Memory) s is h = any_file e s h (inr is)
-  ends e (Err NoCommand) s is h = subst (λ (x : Ending). EndsWith x s) (sym h) is
-  ends e (Err (Unread file)) s is h = any_file e s h.1 (inl is)
-  ends e (Err Unwritten) s is h = part-ends e s is h
-  ends e (Err (Refused file fault)) s is h = subst (λ (x : Ending). EndsWith x s) (sym h) (inl is)
-  ends e (Err Overflow) s is h = subst (λ (x : Ending). EndsWith x s) (sym h) (inl is)
+  pub ends : (r : Ended) (s : ℕ) → s ≡ result_status r → (e : Ending) → Gives told old now r e → EndsWith e s
+  ends (Ok x) s is e h = whole-ends e s is h
+  ends (Err Memory) s is e h = any_memory e s is
+  ends (Err NoCommand) s is e h = subst (λ (x : Ending). EndsWith x s) (sym h) (inl is)
+  ends (Err (Unread file)) s is e h = any_unread e s h is
+  ends (Err Unwritten) s is e h = part-ends e s is h
+  ends (Err (Refused file fault)) s is e h = subst (λ (x : Ending). EndsWith x s) (sym h) (inl is)
+  ends (Err (Undelivered names)) s is e h = subst (λ (x : Ending). EndsWith x s) (sym h) (inl is)
+  ends (Err Overflow) s is e h = subst (λ (x : Ending). EndsWith x s) (sym h) (inl is)
+  ends (Err (WrongLine line name)) s is e h = subst (λ (x : Ending). EndsWith x s) (sym h) (inl is)
+  ends (Err WireFailed) s is e h = subst (λ (n : ℕ). EndsWith e n) (sym is) h
 
-  pub written : (e : Ending) (r : Ended) (s : ℕ) → s ≡ result_status r → s ≡ 0 → Gives told old now names e r → TakesText told old now e
-  written e (Ok x) s is zero h = h
-  written e (Err Memory) s is zero h = absurd (omega arith)
-  written e r s is zero h = absurd (omega arith)
+  pub written : (r : Ended) (s : ℕ) → s ≡ result_status r → s ≡ 0 → (e : Ending) → Gives told old now r e → TakesText told old now e
+  written (Ok x) s is zero e h = h
+  written (Err Memory) s is zero e h = absurd (omega arith)
+  written r s is zero e h = absurd (omega arith)
 
-  pub prefix : (e : Ending) (r : Ended) (s : ℕ) → s ≡ result_status r → s ≡ 4 → Gives told old now names e r → TakesPart told old now e
-  prefix e (Err Unwritten) s is four h = h
-  prefix e r s is four h = absurd (omega arith)
+  pub prefix : (r : Ended) (s : ℕ) → s ≡ result_status r → s ≡ 4 → (e : Ending) → Gives told old now r e → TakesPart told old now e
+  prefix (Err Unwritten) s is four e h = h
+  prefix r s is four e h = absurd (omega arith)
 
-  pub refusal : {E : Type 0} (said : E → Option (List ℕ)) (faults : E → ℕ) (before after : E) (e : Ending) (r : Ended) (s : ℕ) →
-      s ≡ result_status r → s ≡ 5 → IfErr r (λ f. Says said faults before after (message_of f)) →
-      Gives told old now names e r → SaysRefusal said faults before after e
-  refusal said faults before after e (Err (Refused file fault)) s is five says h = subst (SaysRefusal said faults before after) (sym h) says
-  refusal said faults before after e r s is five says h = absurd (omega arith)
+  module _ {E : Type 0} (said : E → Option (List ℕ)) (faults : E → ℕ) (before after : E) where
+    pub refusal : (r : Ended) (s : ℕ) → s ≡ result_status r → s ≡ 5 → IfErr r (λ f. Says said faults before after (message_of f)) →
+        (e : Ending) → Gives told old now r e → SaysRefusal said faults before after e
+    refusal (Err (Refused file fault)) s is five says e h = subst (SaysRefusal said faults before after) (sym h) says
+    refusal r s is five says e h = absurd (omega arith)
 
-  pub unread : {E : Type 0} (said : E → Option (List ℕ)) (faults : E → ℕ) (before after : E) (counted counts : List ℕ → ℕ) (e : Ending) (r : Ended) (s : ℕ) →
-      s ≡ result_status r → s ≡ 3 → IfErr r (λ f. Says said faults before after (message_of f)) → RoseAt counted counts r →
-      Gives told old now names e r → SaysUnread said faults before after counted counts names
-  unread said faults before after counted counts e (Err (Unread file)) s is three says rose h =
-      record { name = file.now; read = h.0; rose = rose; says = says }
-  unread said faults before after counted counts e r s is three says rose h = absurd (omega arith)
+    pub left : (r : Ended) (s : ℕ) → s ≡ result_status r → s ≡ 6 → IfErr r (λ f. Says said faults before after (message_of f)) →
+        (e : Ending) → Gives told old now r e → SaysUndelivered said faults before after e
+    left (Err (Undelivered names)) s is six says e h = subst (SaysUndelivered said faults before after) (sym h) says
+    left r s is six says e h = absurd (omega arith)
+
+    pub wrong : (r : Ended) (s : ℕ) → s ≡ result_status r → s ≡ 8 → IfErr r (λ f. Says said faults before after (message_of f)) →
+        (e : Ending) → Gives told old now r e → SaysWrongLine said faults before after e
+    wrong (Err (WrongLine line name)) s is eight says e h = subst (SaysWrongLine said faults before after) (sym h) says
+    wrong r s is eight says e h = absurd (omega arith)
+
+pub unread : {E : Type 0} (said : E → Option (List ℕ)) (faults : E → ℕ) (before after : E) (counted counts : List ℕ → ℕ) (names : List (List ℕ)) (r : Ended) (s : ℕ) →
+    s ≡ result_status r → s ≡ 3 → IfErr r (λ f. Says said faults before after (message_of f)) → RoseAt counted counts r →
+    UnreadIsAmong names r → SaysUnread said faults before after counted counts names
+unread said faults before after counted counts names (Err (Unread file)) s is three says rose h =
+    record { name = name_text file; read = h; rose = rose; says = says }
+unread said faults before after counted counts names r s is three says rose h = absurd (omega arith)
 
 -- where the words are no command
-pub usage : (r : Ended) (s : ℕ) (P : Type 0) → s ≡ result_status r → IsNoCommand r ↔ P → (s ≡ 2) ↔ P
-usage r s P is h = (λ two. h.0 (from r is two), λ p. to r is (h.1 p))
-  where
-    from : (r : Ended) → s ≡ result_status r → s ≡ 2 → IsNoCommand r
-    from (Err NoCommand) is two = tt
-    from r is two = absurd (omega arith)
+pub usage : (r : Ended) (s : ℕ) (P : Type 0) → s ≡ result_status r → (IsNoCommand r → P) → s ≡ 2 → P
+usage (Err NoCommand) s P is h two = h tt
+usage r s P is h two = absurd (omega arith)
 
-    to : (r : Ended) → s ≡ result_status r → IsNoCommand r → s ≡ 2
-    to (Err NoCommand) is h = is
-    to r is h = absurd h
+pub none : (r : Ended) (s : ℕ) (P : Type 0) → s ≡ result_status r → IsNoCommand r ⊎ ((result_status r ≡ 1) × P) → (s ≡ 2) ⊎ ((s ≡ 1) × P)
+none (Err NoCommand) s P is (inl h) = inl is
+none r s P is (inl h) = absurd h
+none r s P is (inr h) = (let one : s ≡ 1 = omega (arith, is, h.0) in inr (one, h.1))
 
 pub untouched : (r : Ended) (s : ℕ) (P : Type 0) → s ≡ result_status r → Touches r ⊎ P → (s ≡ 0) ⊎ (s ≡ 4) ⊎ P
 untouched r s P is (inr p) = inr (inr p)
@@ -87,6 +123,15 @@ pub no_read : (r : Ended) (s : ℕ) (P : Type 0) → s ≡ result_status r → I
 no_read r s P is (inr p) = inr p
 no_read (Err (Unread file)) s P is (inl u) = inl is
 no_read r s P is (inl u) = absurd u
+
+pub no_wire : (r : Ended) (s : ℕ) (P : Type 0) → s ≡ result_status r → IsWireFailed r ⊎ P → (s ≡ 9) ⊎ P
+no_wire r s P is (inr p) = inr p
+no_wire (Err WireFailed) s P is (inl u) = inl is
+no_wire r s P is (inl u) = absurd u
+
+pub wired : (r : Ended) (s : ℕ) (P : Type 0) → s ≡ result_status r → s ≡ 9 → (IsWireFailed r → P) → P
+wired (Err WireFailed) s P is nine h = h tt
+wired r s P is nine h = absurd (omega arith)
 
 pub failed : (r : Ended) (s : ℕ) (P : Type 0) → s ≡ result_status r → s ≡ 4 → IfErr r (λ f. f ≡ Unwritten → P) → P
 failed (Err Unwritten) s P is four h = h refl
@@ -121,3 +166,7 @@ module _ (P : List ℕ → Type 0) where
   pub over : (r : Ended) (s : ℕ) → s ≡ result_status r → s ≡ 7 → IfErr r (λ f. P (message_of f)) → P overflow_message
   over (Err Overflow) s is seven h = h
   over r s is seven h = absurd (omega arith)
+
+  pub wire : (r : Ended) (s : ℕ) → s ≡ result_status r → s ≡ 9 → IfErr r (λ f. P (message_of f)) → P wire_message
+  wire (Err WireFailed) s is nine h = h
+  wire r s is nine h = absurd (omega arith)

@@ -5,7 +5,7 @@ use Rattle.std.specs.List.{range_with_len}
 use Rattle.mm_text.specs.declared.fault.MmFault.TheVariants.{TooFew}
 use Rattle.mm_text.specs.Reading.{reading}
 use Rattle.mm_text.specs.Written.{coordinate_text}
-use Rattle.tpx.specs.declared.fault.TextFault.TheVariants.{Matrix}
+use Rattle.run_input.specs.declared.fault.TextFault.TheVariants.{Matrix}
 use Rattle.tpx.specs.Endings.{Ending, overflow, refused, writes, ending}
 use Rattle.tpx.specs.Words.{ranks_of, command}
 
@@ -37,7 +37,7 @@ banner = line (codes "%%MatrixMarket matrix coordinate integer general")
 
 -- how `show` ends where each name has this text
 abbrev ends : List ℕ → Ending
-ends text = ending (command (codes "show" ∷ codes "2" ∷ codes "a.mtx" ∷ [])) (λ name. Some text)
+ends text = ending (command (codes "show" ∷ codes "2" ∷ codes "a.mtx" ∷ [])) (λ name. Some text) []
 
 abbrev shown : List ℕ → List ℕ
 shown text = written (ends text)

@@ -3,5 +3,8 @@ pub mod Pieces
 pub mod PrintedCells
 pub mod Reading
 pub mod Showing
+pub mod Played
+pub mod Outputs
+pub mod RunCalls
 pub mod Ended
 pub mod Examples

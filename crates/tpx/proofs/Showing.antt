@@ -8,11 +8,15 @@ use Rattle.mm_text.specs.declared.fault.MmFault.{MmFault}
 use Rattle.mm_text.specs.Outcomes.{Outcome}
 use Rattle.mm_text.specs.Reading.{File, HasFault, IsFile, reading}
 use Rattle.tpx.specs.declared.fault.Fault.{Fault}
-use Rattle.tpx.specs.declared.fault.Fault.TheVariants.{Memory, NoCommand, Unread, Unwritten, Refused, Overflow}
-use Rattle.tpx.specs.declared.fault.TextFault.TheVariants.{Matrix}
+use Rattle.tpx.specs.declared.fault.Fault.TheVariants.{Memory, NoCommand, Unread, Unwritten, Refused, Undelivered, Overflow, WrongLine, WireFailed}
+use Rattle.run_input.specs.Reading.{name_text}
+use Rattle.run_input.specs.declared.fault.TextFault.TheVariants.{Matrix}
 use Rattle.tpx.specs.Endings.{Ending, no_command, no_file, refused, overflow, writes, is_over, text_of, file_ending, show_ending, shown_profile}
-use Rattle.tpx.specs.Sources.{SomeSource}
-use Rattle.tpx.specs.Steps.{Gives, IsNoCommand, IsUnread, RoseAt, StopsReading, StopsShowing, Touches}
+use Rattle.run_input.specs.Sources.{SomeSource}
+use Rattle.message_play.specs.Plays.{WireState}
+use Rattle.tpx.specs.Calls.{SomeCall}
+use Rattle.tpx.specs.Words.{show}
+use Rattle.tpx.specs.Steps.{Gives, IsNoCommand, IsUnread, IsWireFailed, RoseAt, StopsReading, StopsShowing, Touches, UnreadIsAmong}
 use Rattle.tpx.specs.Streams.{TakesPart, TakesText}
 use Rattle.tpx.proofs.Sources.{SomeSource-any}
 
@@ -47,9 +51,9 @@ ending-writes source name text file named is over =
 module _ {S : Type 0} (told : Option Source) (taken : S → Option (List ℕ)) (name : List ℕ) where
   -- a fault of reading
   pub gives-reading : (old : S) (f : Fault) → StopsReading told name f →
-      SomeSource told (λ source. Gives taken old old (name ∷ []) (show_ending name (source name)) (Err f))
-  gives-reading old Memory h = SomeSource-any told _ (λ source. show-command name (source name))
-  gives-reading old (Unread file) h = SomeSource-any told _ (λ source. ((0, (lit< tt, h)), show-command name (source name)))
+      SomeSource told (λ source. Gives taken old old (Err f) (show_ending name (source name)))
+  gives-reading old Memory h = SomeSource-any told _ (λ source. tt)
+  gives-reading old (Unread file) h = SomeSource-any told _ (λ source. show-command name (source name))
   gives-reading old (Refused file (Matrix fault)) h = record {
     source = h.1.source;
     agrees = h.1.agrees;
@@ -59,8 +63,8 @@ module _ {S : Type 0} (told : Option Source) (taken : S → Option (List ℕ)) (
 
   -- a fault of gathering and showing
   pub gives-showing : (old : S) (file : File) (f : Fault) → HasText told name (λ text. IsFile shown_profile text file) → StopsShowing (is_over file) f →
-      SomeSource told (λ source. Gives taken old old (name ∷ []) (show_ending name (source name)) (Err f))
-  gives-showing old file Memory has h = SomeSource-any told _ (λ source. show-command name (source name))
+      SomeSource told (λ source. Gives taken old old (Err f) (show_ending name (source name)))
+  gives-showing old file Memory has h = SomeSource-any told _ (λ source. tt)
   gives-showing old file Overflow has h = record {
     source = has.source;
     agrees = has.agrees;
@@ -71,7 +75,7 @@ module _ {S : Type 0} (told : Option Source) (taken : S → Option (List ℕ)) (
   -- the answer of writing
   pub gives-writing : (faults : S → ℕ) (old now : S) (file : File) (r : Result (Unit {0}) Fault) → HasText told name (λ text. IsFile shown_profile text file) →
       is_over file ≡ false → Writes taken faults old now (text_of file) r → IfErr r (λ f. f ≡ Unwritten) →
-      SomeSource told (λ source. Gives taken old now (name ∷ []) (show_ending name (source name)) r)
+      SomeSource told (λ source. Gives taken old now r (show_ending name (source name)))
   gives-writing faults old now file (Ok x) has fits w e = record {
     source = has.source;
     agrees = has.agrees;
@@ -102,11 +106,11 @@ touches-writing (Err f) P e = absurd (cc)
 -- the count of the file that the answer names rose
 module _ (before after : List ℕ → ℕ) where
   pub rose-reading : (told : Option Source) (name : List ℕ) (f : Fault) → StopsReading told name f →
-      ((let r : Result (Unit {0}) Fault = Err f in IsUnread r) → Rose (before name) (after name)) → RoseAt before after (Err f)
+      ((let r : Result (Unit {0}) Fault = Err f in IsUnread r) → Rose (before name) (after name)) → RoseAt before after (let r : Result (Unit {0}) Fault = Err f in r)
   rose-reading told name (Unread file) h r = subst (λ (n : List ℕ). Rose (before n) (after n)) (sym h) (r tt)
   rose-reading told name f h r = tt
 
-  pub rose-showing : (over : Bool) (f : Fault) → StopsShowing over f → RoseAt before after (Err f)
+  pub rose-showing : (over : Bool) (f : Fault) → StopsShowing over f → RoseAt before after (let r : Result (Unit {0}) Fault = Err f in r)
   rose-showing over (Unread file) h = absurd h
   rose-showing over f h = tt
 
@@ -115,8 +119,48 @@ module _ (before after : List ℕ → ℕ) where
   rose-writing (Err f) e = tt
   rose-writing (Ok x) e = tt
 
+-- the name of a file that could not be read
+pub named-reading : (told : Option Source) (name : List ℕ) (f : Fault) → StopsReading told name f → UnreadIsAmong (name ∷ []) (let r : Result (Unit {0}) Fault = Err f in r)
+named-reading told name (Unread file) h = (0, (lit< tt, h))
+named-reading told name f h = tt
+
+pub named-showing : (names : List (List ℕ)) (over : Bool) (f : Fault) → StopsShowing over f → UnreadIsAmong names (let r : Result (Unit {0}) Fault = Err f in r)
+named-showing names over (Unread file) h = absurd h
+named-showing names over f h = tt
+
+pub named-writing : (names : List (List ℕ)) (r : Result (Unit {0}) Fault) → IfErr r (λ f. f ≡ Unwritten) → UnreadIsAmong names r
+named-writing names (Err (Unread file)) e = absurd (cc)
+named-writing names (Err f) e = tt
+named-writing names (Ok x) e = tt
+
+-- no wire fails where a file is shown
+pub wire-reading : (told : Option Source) (name : List ℕ) (f : Fault) → StopsReading told name f → IsWireFailed (let r : Result (Unit {0}) Fault = Err f in r) → ⊥
+wire-reading told name WireFailed h u = h
+wire-reading told name f h u = u
+
+pub wire-showing : (over : Bool) (f : Fault) → StopsShowing over f → IsWireFailed (let r : Result (Unit {0}) Fault = Err f in r) → ⊥
+wire-showing over WireFailed h u = h
+wire-showing over f h u = u
+
+pub wire-writing : (r : Result (Unit {0}) Fault) → IfErr r (λ f. f ≡ Unwritten) → IsWireFailed r → ⊥
+wire-writing (Err WireFailed) e u = absurd (cc)
+wire-writing (Err f) e u = u
+wire-writing (Ok x) e u = u
+
 -- showing a file does not end as no command
 pub shown-command : {S : Type 0} (told : Option Source) (taken : S → Option (List ℕ)) (name : List ℕ) (old now : S) (r : Result (Unit {0}) Fault) →
-    SomeSource told (λ source. Gives taken old now (name ∷ []) (show_ending name (source name)) r) → IsNoCommand r → ⊥
+    SomeSource told (λ source. Gives taken old now r (show_ending name (source name))) → IsNoCommand r → ⊥
 shown-command told taken name old now (Err NoCommand) some h = show-command name (some.source name) some.passes
 shown-command told taken name old now r some h = absurd h
+
+-- the call that shows a file
+pub call-shown : {S : Type 0} (told : Option Source) (taken : S → Option (List ℕ)) (ranks : ℕ) (name : List ℕ) (settled : Bool) (wire : WireState) (old now : S) (r : Result (Unit {0}) Fault) →
+    SomeSource told (λ source. Gives taken old now r (show_ending name (source name))) → SomeCall told (Some (show ranks name)) settled wire wire (Gives taken old now r)
+call-shown told taken ranks name settled wire old now r some = record {
+  source = some.source;
+  agrees = some.agrees;
+  letters = [];
+  wire = (refl, refl);
+  passes = some.passes;
+  on_global_data = λ honest. some.passes;
+}

@@ -1,7 +1,7 @@
 -- Sources that agree with what files tell.
 use Rattle.std.proofs.Common.{Option, None, Some, refl}
 use Rattle.outside.specs.Reads.{AgreesWith, Source}
-use Rattle.tpx.specs.Sources.{SomeSource}
+use Rattle.run_input.specs.Sources.{SomeSource}
 
 -- there is always one
 agreeing : (told : Option Source) → (source : Source) × AgreesWith told source

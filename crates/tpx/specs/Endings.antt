@@ -1,7 +1,12 @@
--- How a command ends, by its words and a source of texts, where memory suffices and nothing of the outside fails.
+-- How a command ends, by its words, a source of texts and the letters that were given, where memory suffices and nothing
+-- of the outside fails.
 use Rattle.std.specs.Global.{Global}
-use Rattle.std.specs.Prelude.{◌≡◌, ◌⊎◌, ℕ, Bool, List, [], ◌∷◌, Option, None, Some, Ok, Err, String, map, string_bytes, if◌then◌else◌}
+use Rattle.std.specs.Prelude.{◌≡◌, ◌⊎◌, ℕ, Bool, List, [], ◌∷◌, ◌++◌, Option, None, Some, Result, Ok, Err, String, map, string_bytes, if◌then◌else◌}
+use Rattle.outside.specs.declared.name.Name.{Name}
 use Rattle.outside.specs.Reads.{Source}
+use Rattle.peers.specs.Protocols.{Letter}
+use Rattle.schedule.specs.Orders as orders
+use Rattle.scalar_laws.specs.declared.weighed.Weighed.{Weighed}
 use Rattle.scalar_laws.specs.Weighed.{weighed_semiring, weighed_conversions}
 use Rattle.tables.specs.Tables.{cells_of}
 use Rattle.mm_text.specs.declared.file_data.Form.TheVariants.{Coordinate}
@@ -11,10 +16,17 @@ use Rattle.mm_text.specs.Limits.{profile_of}
 use Rattle.mm_text.specs.Outcomes.{Outcome}
 use Rattle.mm_text.specs.Reading.{File, reading}
 use Rattle.model_defs.specs.FileMatrix.{file_matrix}
+use Rattle.model_defs.specs.Pieces.{Value}
+use Rattle.model_defs.specs.Sheets.{is_any_over, printed_text}
 use Rattle.model_defs.specs.ShowText.{shown_cell, show_text, is_file_over}
-use Rattle.tpx.specs.declared.fault.TextFault.{TextFault}
-use Rattle.tpx.specs.declared.fault.TextFault.TheVariants.{Matrix}
-use Rattle.tpx.specs.Words.{Command, show, command}
+use Rattle.model_defs.specs.Traffic.{traffic_text}
+use Rattle.model_defs.specs.Turns.{Each}
+use Rattle.run_input.specs.declared.fault.TextFault.{TextFault}
+use Rattle.run_input.specs.declared.fault.TextFault.TheVariants.{Matrix}
+use Rattle.run_input.specs.Walk.{Input, Stop, input_of, reads_for}
+use Rattle.run_input.specs.Walk as walk
+use Rattle.tpx.specs.Runs.{end_of, gathered, on_global_data}
+use Rattle.tpx.specs.Words.{Command, show, run, command}
 
 -- the most entries of a file that is shown, and the most rows
 abbrev pub most_entries : ℕ
@@ -34,8 +46,12 @@ pub data Ending : Type 0 where
   no_file : List ℕ → Ending
   -- the text of the file of this name has this fault first
   refused : List ℕ → TextFault → Ending
+  -- the schedule ended while these letters were in flight, sorted by name
+  undelivered : List Name → Ending
   -- at some place the magnitudes added exceed 2^127 - 1
   overflow : Ending
+  -- this line of the schedule is the first that names a letter neither in flight nor delivered before
+  wrong_line : ℕ → Name → Ending
   -- this text is written
   writes : List ℕ → Ending
 
@@ -62,31 +78,77 @@ abbrev pub show_ending : List ℕ → Option (List ℕ) → Ending
 show_ending name None = no_file name
 show_ending name (Some text) = file_ending name (reading shown_profile text)
 
+-- the listing, where it was asked for
+abbrev pub listing_if : Bool → Input → List ℕ
+listing_if traffic input = if traffic then traffic_text input.job input.files else []
+
+-- what a job writes whose values are these
+abbrev pub result_text : Bool → Input → Each (Value Weighed) → List ℕ
+result_text traffic input values = printed_text weighed_conversions input.job values ++ listing_if traffic input
+
+-- where all letters were delivered and the values are these, of which no cell may be over
+abbrev pub complete_ending : Bool → Input → Each (Value Weighed) → Ending
+complete_ending traffic input values =
+    if is_any_over weighed_conversions input.job values then overflow else writes (result_text traffic input values)
+
+-- where the order of deliveries ends like this
+abbrev pub ordered_ending : orders.Ending → Bool → Input → Each (Value Weighed) → Ending
+ordered_ending orders.Complete traffic input values = complete_ending traffic input values
+ordered_ending (orders.Left names) traffic input values = undelivered names
+ordered_ending (orders.Wrong line name) traffic input values = wrong_line line name
+
+-- running a job, or refusing what it is given; `values` are those of the job
+abbrev pub run_ending : Bool → (Input → Each (Value Weighed)) → Result Input Stop → Ending
+run_ending traffic values (Ok input) = ordered_ending (end_of input) traffic input (values input)
+run_ending traffic values (Err (walk.no_file name)) = no_file name
+run_ending traffic values (Err (walk.refused name fault)) = refused name fault
+
 -- how a command ends over a source
-abbrev pub ending : Option Command → Source → Ending
-ending None source = no_command
-ending (Some (show ranks name)) source = show_ending name (source name)
+abbrev pub ending_with : (Input → Each (Value Weighed)) → Option Command → Source → Ending
+ending_with values None source = no_command
+ending_with values (Some (show ranks name)) source = show_ending name (source name)
+ending_with values (Some (run c)) source = run_ending c.traffic values (input_of source c.job c.order)
+
+-- where the ranks were given these letters
+abbrev pub ending : Option Command → Source → List Letter → Ending
+ending c source letters = ending_with (λ input. gathered input letters) c source
+
+-- by what the operations give on the global data
+abbrev pub global_ending : Option Command → Source → Ending
+global_ending c source = ending_with on_global_data c source
 
 -- the names that it reads, in their order
 abbrev pub reads : Option Command → Source → List (List ℕ)
 reads None source = []
 reads (Some (show ranks name)) source = name ∷ []
+reads (Some (run c)) source = reads_for source c.job c.order
 
--- the same by the words of a command line
+-- what a run is given, where the command is one and nothing is refused
+abbrev pub input_if : Result Input Stop → Option Input
+input_if (Ok input) = Some input
+input_if (Err stop) = None
+
+abbrev pub run_input : Option Command → Source → Option Input
+run_input (Some (run c)) source = input_if (input_of source c.job c.order)
+run_input (Some (show ranks name)) source = None
+run_input None source = None
+
+-- the command of the words of a command line
 abbrev pub command_of : List (String Global) → Option Command
 command_of words = command (map string_bytes words)
 
-abbrev pub ending_of : List (String Global) → Source → Ending
-ending_of words source = ending (command_of words) source
-
+-- the names that it reads
 abbrev pub reads_of : List (String Global) → Source → List (List ℕ)
 reads_of words source = reads (command_of words) source
 
 -- The statuses that may come with an ending: its own, and where there is a command also 1, for want of memory, and 3,
--- for a read that failed; with a text also 4, for a write that failed.
+-- for a read that failed; with a text also 4, for a write that failed; where a run may have begun also 9, for a wire that
+-- failed. The words of `run` may want memory before it is known whether they are a command.
 abbrev pub EndsWith : Ending → ℕ → Type 0
-EndsWith no_command status = status ≡ 2
+EndsWith no_command status = (status ≡ 2) ⊎ (status ≡ 1)
 EndsWith (no_file name) status = (status ≡ 3) ⊎ (status ≡ 1)
 EndsWith (refused name fault) status = (status ≡ 5) ⊎ (status ≡ 3) ⊎ (status ≡ 1)
-EndsWith overflow status = (status ≡ 7) ⊎ (status ≡ 3) ⊎ (status ≡ 1)
-EndsWith (writes text) status = (status ≡ 0) ⊎ (status ≡ 4) ⊎ (status ≡ 3) ⊎ (status ≡ 1)
+EndsWith (undelivered names) status = (status ≡ 6) ⊎ (status ≡ 9) ⊎ (status ≡ 3) ⊎ (status ≡ 1)
+EndsWith overflow status = (status ≡ 7) ⊎ (status ≡ 9) ⊎ (status ≡ 3) ⊎ (status ≡ 1)
+EndsWith (wrong_line line name) status = (status ≡ 8) ⊎ (status ≡ 9) ⊎ (status ≡ 3) ⊎ (status ≡ 1)
+EndsWith (writes text) status = (status ≡ 0) ⊎ (status ≡ 4) ⊎ (status ≡ 9) ⊎ (status ≡ 3) ⊎ (status ≡ 1)

@@ -1,8 +1,11 @@
 pub mod Words
 pub mod Asked
-pub mod Sources
+pub mod Runs
 pub mod Endings
+pub mod Calls
+pub mod Refusals
 pub mod Messages
 pub mod Faults
 pub mod Streams
 pub mod Steps
+pub mod Running

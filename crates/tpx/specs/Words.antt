@@ -1,11 +1,16 @@
 -- The words of the command line, as lists of bytes.
-use Rattle.std.specs.Prelude.{◌&&◌, ◌+◌, ◌-◌, ◌*◌, ℕ, Bool, nat_le, nat_lt, nat_eq, List, [], ◌∷◌, Option, None, Some, codes, if◌then◌else◌}
+use Rattle.std.specs.Prelude.{◌&&◌, ◌+◌, ◌-◌, ◌*◌, ℕ, Bool, true, false, nat_le, nat_lt, nat_eq, List, [], ◌∷◌, Option, None, Some, codes, if◌then◌else◌}
 use Rattle.std.specs.Option.{option_map}
 use Rattle.std.specs.Cmp.Lexicographic.{pointwise}
+use Rattle.run_words.specs.Given.{RunCommand}
+use Rattle.run_words.specs.Given as after_run
 
--- what the words ask for: `show` on so many ranks, of the file of this name
+-- what the words ask for
 pub data Command : Type 0 where
+  -- `show` on so many ranks, of the file of this name
   show : ℕ → List ℕ → Command
+  -- `run` of a job
+  run : RunCommand → Command
 
 -- a number of ranks, if it is one: 1 to 32
 abbrev pub rank_count : ℕ → Option ℕ
@@ -21,8 +26,26 @@ ranks_of (tens ∷ units ∷ []) =
     if is_digit tens && is_digit units && nat_lt 48 tens then rank_count (10 * (tens - 48) + (units - 48)) else None
 ranks_of _ = None
 
--- the command of the words after the program's name: exactly three, `show RANKS FILE`
+-- the words after `show`: exactly two, RANKS and FILE
+abbrev pub show_command : List (List ℕ) → Option Command
+show_command (ranks ∷ file ∷ []) = option_map (λ n. show n file) (ranks_of ranks)
+show_command _ = None
+
+abbrev pub is_word : List ℕ → List ℕ → Bool
+is_word verb word = pointwise nat_eq verb word
+
+-- the command of the words after the program's name: the first word says which
 abbrev pub command : List (List ℕ) → Option Command
-command (verb ∷ ranks ∷ file ∷ []) =
-    if pointwise nat_eq verb (codes "show") then option_map (λ n. show n file) (ranks_of ranks) else None
-command _ = None
+command [] = None
+command (verb ∷ words) = if is_word verb (codes "show") then show_command words
+    else (if is_word verb (codes "run") then option_map run (after_run.command words) else None)
+
+-- whether the first word is `run`
+abbrev pub begins_run : List (List ℕ) → Bool
+begins_run [] = false
+begins_run (verb ∷ words) = is_word verb (codes "run")
+
+-- whether a command is `run`
+abbrev pub is_run : Option Command → Bool
+is_run (Some (run c)) = true
+is_run _ = false

@@ -1,15 +1,9 @@
 //! Why a command ends without its result.
 ghost use Rattle.std.specs.Prelude.{◌≡◌};
 
-use mm_text::MmFault;
+use outside::Name;
+use run_input::{FileName, TextFault};
 use std::alloc::{AllocError, AllocFailed};
-
-/// Why the text of a file is refused.
-#[derive(Debug, Drop)]
-pub enum TextFault {
-    /// It is no matrix file.
-    Matrix(MmFault),
-}
 
 /// Why a command ends without its result.
 #[derive(Debug, Drop)]
@@ -19,13 +13,29 @@ pub enum Fault<'a> {
     /// The words are no command.
     NoCommand,
     /// The file of this name could not be read.
-    Unread { file: &'a str },
+    Unread {
+        file: FileName<'a>,
+    },
     /// The output could not be written.
     Unwritten,
     /// The text of the file of this name is refused.
-    Refused { file: &'a str, fault: TextFault },
+    Refused {
+        file: FileName<'a>,
+        fault: TextFault,
+    },
+    /// The schedule ended while these letters were in flight, sorted by name.
+    Undelivered {
+        names: Vec<Name>,
+    },
     /// A number has more weight than fits.
     Overflow,
+    /// This line of the schedule is the first that names a letter neither in flight nor delivered before.
+    WrongLine {
+        line: u32,
+        name: Name,
+    },
+    /// The wire refused a call.
+    WireFailed,
 }
 
 impl<'a> Fault<'a> {
@@ -41,7 +51,10 @@ impl<'a> Fault<'a> {
             Fault::Unread { .. } => 3,
             Fault::Unwritten => 4,
             Fault::Refused { .. } => 5,
+            Fault::Undelivered { .. } => 6,
             Fault::Overflow => 7,
+            Fault::WrongLine { .. } => 8,
+            Fault::WireFailed => 9,
         }
     }
 }

@@ -2,8 +2,9 @@
 //!
 //! The program is one call, `top`, over files, a wire between ranks, and two sinks. `run_on_system` calls it over those of
 //! the system, the tests over those in memory. What `top` does is said by its contract: the words of a command
-//! (`specs/Words`), how it ends over a source of texts and with which statuses (`specs/Endings`), what the two sinks take
-//! (`specs/Streams`), and the messages (`specs/Messages`). Nothing stands on it.
+//! (`specs/Words`), the run of a job over a wire (`specs/Runs`), how a command ends over a source of texts with the letters
+//! given, and with which statuses (`specs/Endings`), what a call came to (`specs/Calls`), what the two sinks take
+//! (`specs/Streams`), and the messages (`specs/Messages`, `specs/Refusals`). Nothing stands on it.
 //!
 //! ```
 //! let status = top(alloc, &words, &mut files, &mut wire, &mut out, &mut err);
@@ -12,6 +13,11 @@
 
 mod fault;
 mod messages;
+mod output;
+mod refusals;
+mod run;
+#[cfg(test)]
+mod run_tests;
 mod show;
 mod shown;
 mod system;

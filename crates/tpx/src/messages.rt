@@ -1,67 +1,18 @@
 //! The messages on standard error.
-ghost use Rattle.std.specs.Prelude.{◌≡◌, ◌≤◌, IfErr, OnOk};
+ghost use Rattle.std.specs.Prelude.{◌≡◌, ◌≤◌, ◌++◌, ◌∷◌, IfErr, OnOk};
+ghost use Rattle.std.specs.List.{flat_map};
 ghost use Rattle.outside.specs.Writes.{Writes};
 ghost use Rattle.tpx.specs.Faults.{message_of, result_status};
-ghost use Rattle.tpx.specs.Messages.{fault_line, fault_name, fault_number, joined, refused_message, unread_message};
+ghost use Rattle.tpx.specs.Messages.{joined, letter_line, letter_text, line_front, undelivered_line, undelivered_message, unread_message, wrong_line_message};
 ghost use Rattle.tpx.specs.Streams.{Says};
 
-use crate::fault::{Fault, TextFault};
+use crate::fault::Fault;
+use crate::refusals::write_refusal;
 use itoa::Buffer;
-use mm_text::MmFault;
-use outside::{Sink, SinkFault, write_all};
-
-/// The name of a fault.
-fn name_of(fault: &MmFault) -> &'static str
-    ensures { result.now ≡ fault_name fault.now }
-{
-    match fault {
-        MmFault::ReadFault => "ReadFault",
-        MmFault::NoBanner => "NoBanner",
-        MmFault::BadBanner => "BadBanner",
-        MmFault::UnsupportedField => "UnsupportedField",
-        MmFault::UnsupportedSymmetry => "UnsupportedSymmetry",
-        MmFault::WrongForm => "WrongForm",
-        MmFault::BadSize => "BadSize",
-        MmFault::BadLine { .. } => "BadLine",
-        MmFault::OutOfRange { .. } => "OutOfRange",
-        MmFault::NotSquare => "NotSquare",
-        MmFault::SkewDiagonal { .. } => "SkewDiagonal",
-        MmFault::TooFew { .. } => "TooFew",
-        MmFault::Extra { .. } => "Extra",
-        MmFault::NumberTooWide { .. } => "NumberTooWide",
-        MmFault::TooManyEntries => "TooManyEntries",
-        MmFault::TooLong => "TooLong",
-        MmFault::NoMem => "NoMem",
-    }
-}
-
-/// The number that a fault names, if it names one.
-fn number_of(fault: &MmFault) -> Option<u32>
-    ensures { result ≡ fault_number fault.now }
-{
-    match fault {
-        MmFault::BadLine { line }
-        | MmFault::OutOfRange { line }
-        | MmFault::SkewDiagonal { line }
-        | MmFault::Extra { line }
-        | MmFault::NumberTooWide { line } => Some(*line),
-        MmFault::TooFew { have } => Some(*have),
-        MmFault::ReadFault
-        | MmFault::NoBanner
-        | MmFault::BadBanner
-        | MmFault::UnsupportedField
-        | MmFault::UnsupportedSymmetry
-        | MmFault::WrongForm
-        | MmFault::BadSize
-        | MmFault::NotSquare
-        | MmFault::TooManyEntries
-        | MmFault::TooLong
-        | MmFault::NoMem => None,
-    }
-}
+use outside::{Name, Sink, SinkFault, write_all};
 
 /// Writes these texts, one after the other.
-fn write_pieces<E: Sink>(err: &mut E, pieces: &[&str]) -> Result<(), SinkFault>
+pub(crate) fn write_pieces<E: Sink>(err: &mut E, pieces: &[&str]) -> Result<(), SinkFault>
     ensures { Writes E.told E.faults err.old err.new (joined pieces.now) result }
 {
     for piece in pieces {
@@ -72,40 +23,95 @@ fn write_pieces<E: Sink>(err: &mut E, pieces: &[&str]) -> Result<(), SinkFault>
     Ok(())
 }
 
-/// Writes the message that a file has the fault of this name, with what is said behind it.
-fn write_fault<'a, E: Sink>(
-    err: &mut E,
-    file: &'a str,
-    name: &'a str,
-    space: &'a str,
-    number: &'a str,
-) -> Result<(), SinkFault>
-    ensures { let text = fault_line file.now name.now space.now number.now in
-        Writes E.told E.faults err.old err.new text result }
-{
-    write_pieces(err, &["tpx: ", file, ": ", name, space, number, "\n"])
-}
-
-/// Writes the message that a file is refused.
-fn write_refusal<E: Sink>(err: &mut E, file: &str, fault: &TextFault) -> Result<(), SinkFault>
-    ensures { Writes E.told E.faults err.old err.new (refused_message file.now fault.now) result }
-{
-    let TextFault::Matrix(fault) = fault;
-    let name = name_of(fault);
-    match number_of(fault) {
-        None => write_fault(err, file, name, "", ""),
-        Some(number) => {
-            let mut digits = Buffer::new();
-            write_fault(err, file, name, " ", digits.format(number))
-        }
-    }
-}
-
 /// Writes that a file cannot be read.
 fn write_unread<'a, E: Sink>(err: &mut E, file: &'a str) -> Result<(), SinkFault>
     ensures { Writes E.told E.faults err.old err.new (unread_message file.now) result }
 {
     write_pieces(err, &["tpx: cannot read ", file, "\n"])
+}
+
+/// Writes these words of a letter's name between two texts.
+fn write_words<'a, E: Sink>(
+    err: &mut E,
+    before: &'a str,
+    phase: &'a str,
+    from: &'a str,
+    to: &'a str,
+    after: &'a str,
+) -> Result<(), SinkFault>
+    ensures { Writes E.told E.faults err.old err.new (before.now ++ (phase.now ++ 32 ∷ (from.now ++ 32 ∷ to.now)) ++ after.now) result }
+{
+    write_pieces(err, &[before, phase, " ", from, " ", to, after])
+}
+
+/// Writes the name of a letter between two texts.
+fn write_letter<'a, E: Sink>(
+    err: &mut E,
+    before: &'a str,
+    name: Name,
+    after: &'a str,
+) -> Result<(), SinkFault>
+    ensures { Writes E.told E.faults err.old err.new (before.now ++ letter_text name ++ after.now) result }
+{
+    let mut phase = Buffer::new();
+    let mut from = Buffer::new();
+    let mut to = Buffer::new();
+    write_words(
+        err,
+        before,
+        phase.format(name.phase),
+        from.format(name.from),
+        to.format(name.to),
+        after,
+    )
+}
+
+/// Writes a line for each letter.
+fn write_letters<E: Sink>(err: &mut E, names: &[Name]) -> Result<(), SinkFault>
+    ensures { Writes E.told E.faults err.old err.new (flat_map letter_line names.now) result }
+{
+    for name in names {
+        if let Err(fault) = write_letter(err, "", *name, "\n") {
+            return Err(fault);
+        }
+    }
+    Ok(())
+}
+
+/// Writes how many letters are undelivered.
+fn write_count<'a, E: Sink>(err: &mut E, count: &'a str) -> Result<(), SinkFault>
+    ensures { Writes E.told E.faults err.old err.new (undelivered_line count.now) result }
+{
+    write_pieces(err, &["tpx: undelivered ", count, "\n"])
+}
+
+/// Writes which letters are undelivered.
+fn write_undelivered<E: Sink>(err: &mut E, names: &[Name]) -> Result<(), SinkFault>
+    ensures { Writes E.told E.faults err.old err.new (undelivered_message names.now) result }
+{
+    let mut count = Buffer::new();
+    if let Err(fault) = write_count(err, count.format(names.len())) {
+        return Err(fault);
+    }
+    write_letters(err, names)
+}
+
+/// Writes what stands before the letter that a line names.
+fn write_line_number<'a, E: Sink>(err: &mut E, line: &'a str) -> Result<(), SinkFault>
+    ensures { Writes E.told E.faults err.old err.new (line_front line.now) result }
+{
+    write_pieces(err, &["tpx: line ", line, ": "])
+}
+
+/// Writes that a line names a letter which is not in flight.
+fn write_wrong_line<E: Sink>(err: &mut E, line: u32, name: Name) -> Result<(), SinkFault>
+    ensures { Writes E.told E.faults err.old err.new (wrong_line_message line name) result }
+{
+    let mut number = Buffer::new();
+    if let Err(fault) = write_line_number(err, number.format(line)) {
+        return Err(fault);
+    }
+    write_letter(err, "", name, " is not in flight\n")
 }
 
 /// Writes the message of a command that ends without its result.
@@ -118,10 +124,13 @@ fn write_message<'a, E: Sink>(err: &mut E, fault: &Fault<'a>) -> Result<(), Sink
             err,
             b"tpx: usage: tpx show RANKS FILE; tpx run JOB [--schedule FILE] [--order fifo, lifo or seed] [--seed N] [--traffic]; tpx gen N\n",
         ),
-        Fault::Unread { file } => write_unread(err, file),
+        Fault::Unread { file } => write_unread(err, file.as_str()),
         Fault::Unwritten => write_all(err, b"tpx: cannot write\n"),
-        Fault::Refused { file, fault } => write_refusal(err, file, fault),
+        Fault::Refused { file, fault } => write_refusal(err, file.as_str(), fault),
+        Fault::Undelivered { names } => write_undelivered(err, names),
         Fault::Overflow => write_all(err, b"tpx: overflow\n"),
+        Fault::WrongLine { line, name } => write_wrong_line(err, *line, *name),
+        Fault::WireFailed => write_all(err, b"tpx: wire failed\n"),
     }
 }
 

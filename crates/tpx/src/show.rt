@@ -7,14 +7,15 @@ ghost use Rattle.outside.specs.Writes.{Writes};
 ghost use Rattle.mm_text.specs.Reading.{IsFile, file_of};
 ghost use Rattle.gathered_rows.specs.Conditions.{CanBeGathered};
 ghost use Rattle.tpx.specs.Endings.{is_over, show_ending, shown_of, shown_profile, text_of};
-ghost use Rattle.tpx.specs.Sources.{SomeSource};
-ghost use Rattle.tpx.specs.Steps.{Gives, IsUnread, RoseAt, StopsReading, StopsShowing, Touches, fault_at};
+ghost use Rattle.run_input.specs.Sources.{SomeSource};
+ghost use Rattle.tpx.specs.Steps.{Gives, IsUnread, IsWireFailed, RoseAt, StopsReading, StopsShowing, Touches, UnreadIsAmong, fault_at};
 
-use crate::fault::{Fault, TextFault};
+use crate::fault::Fault;
 use crate::shown::shown_cells;
 use gathered_rows::gathered_cells;
 use mm_text::{FileData, Form, MmFault, Shown, SinkFault, read_matrix, write_coordinate};
 use outside::{Files, Sink};
+use run_input::{FileName, TextFault};
 use scalar_laws::Weighed;
 use std::alloc::Global;
 
@@ -29,7 +30,9 @@ fn fault_of<'a>(file: &'a str, fault: MmFault) -> Fault<'a>
     ensures { result ≡ fault_at file.entry fault }
 {
     match fault {
-        MmFault::ReadFault => Fault::Unread { file },
+        MmFault::ReadFault => Fault::Unread {
+            file: FileName::Word(file),
+        },
         MmFault::NoMem => Fault::Memory,
         MmFault::NoBanner
         | MmFault::BadBanner
@@ -46,7 +49,7 @@ fn fault_of<'a>(file: &'a str, fault: MmFault) -> Fault<'a>
         | MmFault::NumberTooWide { .. }
         | MmFault::TooManyEntries
         | MmFault::TooLong => Fault::Refused {
-            file,
+            file: FileName::Word(file),
             fault: TextFault::Matrix(fault),
         },
     }
@@ -116,7 +119,9 @@ pub fn show<'a, F: Files, O: Sink>(
     requires to { ranks ≤ 32 }
     ensures reads { Reads F.told F.faults files.old files.new name.now (IsUnread result) }
     ensures gives { SomeSource (F.told files.old) (λ source.
-        Gives O.told out.old out.new (name.now ∷ []) (show_ending name.now (source name.now)) result) }
+        Gives O.told out.old out.new result (show_ending name.now (source name.now))) }
+    ensures named { UnreadIsAmong (name.now ∷ []) result }
+    ensures on_no_wire { IsWireFailed result → ⊥ }
     ensures untouched { Touches result ⊎ (out.new ≡ out.old) }
     ensures unwritten { IfErr result (λ fault. fault ≡ Fault.Unwritten → Rose (O.faults out.old) (O.faults out.new)) }
     ensures no_fault { OnOk result (O.faults out.new ≡ O.faults out.old) }

@@ -1,9 +1,10 @@
 //! Whole commands, over files and sinks in memory.
-use crate::fault::{Fault, TextFault};
+use crate::fault::Fault;
 use crate::messages::report;
 use crate::top_call::top;
 use mm_text::MmFault;
 use outside::{MailRoom, MemFiles, MemSink};
+use run_input::{FileName, TextFault};
 use std::alloc::{AllocError, Global};
 use std::process::Abort;
 use std::test::Fail;
@@ -323,7 +324,8 @@ fn each_fault_of_a_text_has_its_name(rt: HostRuntime) -> Result<(), Fail> {
     for (fault, name) in faults {
         let mut err = MemSink::new(alloc, 100)?;
         let fault = TextFault::Matrix(fault);
-        let ended = Err(Fault::Refused { file: "f", fault });
+        let file = FileName::Word("f");
+        let ended = Err(Fault::Refused { file, fault });
         assert_eq!(rt; report(&mut err, &ended), 5);
         let message = format!(in alloc; "tpx: f: {name}\n")?;
         assert_eq!(rt; err.bytes(), message.as_bytes());

@@ -1,8 +1,12 @@
 //! The words of the command line.
-ghost use Rattle.std.specs.Prelude.{◌≡◌, ◌≤◌, IfSome};
+ghost use Rattle.std.specs.Prelude.{◌≡◌, ◌≤◌, IfOk, IfSome, OnErr, map, string_bytes, true};
 ghost use Rattle.std.specs.Option.{option_map};
+ghost use Rattle.tpx.specs.Asked.{HasRanks, asked};
 ghost use Rattle.tpx.specs.Endings.{command_of};
-ghost use Rattle.tpx.specs.Words.{ranks_of};
+ghost use Rattle.tpx.specs.Words.{begins_run, ranks_of, show, show_command};
+
+use run_words::{RunWords, run_words};
+use std::alloc::{AllocError, Global};
 
 /// The words of `show`: a number of ranks, from 1 to 32, and the name of a file.
 #[derive(Clone, Copy)]
@@ -28,20 +32,47 @@ fn parse_ranks(word: &[u8]) -> Option<u32>
 }
 
 impl<'a> ShowCommand<'a> {
-    ghost use Rattle.tpx.specs.Asked.{asked};
-
-    /// The command of the words after the program's name; None where they are no command.
-    pub fn read(words: &'a [String]) -> Option<ShowCommand<'a>>
-        ensures asked { option_map asked result ≡ command_of words.now }
+    /// The command of the words after `show`; None where they are none.
+    fn read(words: &'a [String]) -> Option<ShowCommand<'a>>
+        ensures asked { option_map (λ c. show c.ranks c.file.now) result ≡ show_command (map string_bytes words.now) }
         ensures ranks { IfSome result (λ c. (1 ≤ c.ranks) × (c.ranks ≤ 32)) }
     {
         match words {
-            [verb, ranks, file] if verb.as_str() == "show" => {
+            [ranks, file] => {
                 let ranks = parse_ranks(ranks.as_bytes())?;
                 let file = file.as_str();
                 Some(ShowCommand { ranks, file })
             }
             _ => None,
+        }
+    }
+}
+
+/// What the words ask for.
+#[derive(Clone, Copy)]
+pub enum Asked<'a> {
+    Show(ShowCommand<'a>),
+    Run(RunWords<'a>),
+}
+
+impl<'a> Asked<'a> {
+    /// The command of the words after the program's name; None where they are no command. The words of `run` take memory,
+    /// and `Err` means that it ran out.
+    pub fn read(alloc: Global, words: &'a [String]) -> Result<Option<Asked<'a>>, AllocError>
+        ensures asked { IfOk result (λ r. option_map asked r ≡ command_of words.now) }
+        ensures ranks { IfOk result (λ r. IfSome r HasRanks) }
+        ensures err { OnErr result (begins_run (map string_bytes words.now) ≡ true) }
+    {
+        match words {
+            [verb, rest @ ..] if verb.as_str() == "show" => match ShowCommand::read(rest) {
+                Some(command) => Ok(Some(Asked::Show(command))),
+                None => Ok(None),
+            },
+            [verb, rest @ ..] if verb.as_str() == "run" => match run_words(alloc, rest)? {
+                Some(command) => Ok(Some(Asked::Run(command))),
+                None => Ok(None),
+            },
+            _ => Ok(None),
         }
     }
 }

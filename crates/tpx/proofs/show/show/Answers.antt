@@ -1,7 +1,8 @@
+use Rattle.std.proofs.Common.{◌∷◌, []}
 use Rattle.std.proofs.lemmas.Result.{err_from_is_err_and}
 use Rattle.mm_text.specs.Reading.{file_of}
 use Rattle.tpx.proofs.Reading.{Reads-same}
-use Rattle.tpx.proofs.Showing.{gives-reading, gives-showing, gives-writing, showing-read, writing-read, touches-writing, rose-reading, rose-showing, rose-writing}
+use Rattle.tpx.proofs.Showing.{gives-reading, gives-showing, gives-writing, showing-read, writing-read, touches-writing, rose-reading, rose-showing, rose-writing, named-reading, named-showing, named-writing, wire-reading, wire-showing, wire-writing}
 use Rattle.tpx.proofs.show.show.Goals as goal
 
 pub returns-in_err-file-clause-gives : goal.returns-in_err-file-clause-gives
@@ -48,3 +49,29 @@ returns-clause-untouched g c = touches-writing c.write_matrix.result _ c.write_m
 
 pub returns-clause-unread : goal.returns-clause-unread
 returns-clause-unread g c = rose-writing (g.F.Files.faults c.args.files.now) (g.F.Files.faults c.read_shown.new.files) c.write_matrix.result c.write_matrix.ensures.fault
+
+pub returns-in_err-file-clause-named : goal.returns-in_err-file-clause-named
+returns-in_err-file-clause-named g c =
+    let p = err_from_is_err_and c.from_residual.result c.from_residual.ensures.1 in
+    rw (p.1, p.2) (named-reading (g.F.Files.told c.args.files.now) c.args.name.now _ c.in_err-file.ensures.fault)
+
+pub returns-in_err-file-clause-on_no_wire : goal.returns-in_err-file-clause-on_no_wire
+returns-in_err-file-clause-on_no_wire g c =
+    let p = err_from_is_err_and c.from_residual.result c.from_residual.ensures.1 in
+    rw (p.1, p.2) (wire-reading (g.F.Files.told c.args.files.now) c.args.name.now _ c.in_err-file.ensures.fault)
+
+pub returns-in_err-cells-clause-named : goal.returns-in_err-cells-clause-named
+returns-in_err-cells-clause-named g c =
+    let p = err_from_is_err_and c.from_residual-in_err-cells.result c.from_residual-in_err-cells.ensures.1 in
+    rw (p.1, p.2) (named-showing (c.args.name.now ∷ []) _ _ c.in_err-cells.ensures.fault)
+
+pub returns-in_err-cells-clause-on_no_wire : goal.returns-in_err-cells-clause-on_no_wire
+returns-in_err-cells-clause-on_no_wire g c =
+    let p = err_from_is_err_and c.from_residual-in_err-cells.result c.from_residual-in_err-cells.ensures.1 in
+    rw (p.1, p.2) (wire-showing _ _ c.in_err-cells.ensures.fault)
+
+pub returns-clause-named : goal.returns-clause-named
+returns-clause-named g c = named-writing (c.args.name.now ∷ []) c.write_matrix.result c.write_matrix.ensures.fault
+
+pub returns-clause-on_no_wire : goal.returns-clause-on_no_wire
+returns-clause-on_no_wire g c = wire-writing c.write_matrix.result c.write_matrix.ensures.fault
