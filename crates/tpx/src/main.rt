@@ -15,6 +15,8 @@ mod fault;
 mod messages;
 mod output;
 mod refusals;
+#[cfg(test)]
+mod residue_tests;
 mod run;
 #[cfg(test)]
 mod run_tests;

@@ -1,0 +1,56 @@
+//! A job on another kind of number than the program's.
+ghost use Rattle.std.specs.Prelude.{map};
+ghost use Rattle.mm_text.specs.Reading.{file_of};
+ghost use Rattle.model_defs.specs.Fitting.{IsFitting};
+ghost use Rattle.model_defs.specs.Local.{IsLocalJob};
+ghost use Rattle.model_defs.specs.Valid.{IsValid};
+
+use outside::{MailRoom, MemFiles};
+use rank_sim::{End, run_with};
+use run_input::{Given, read_given};
+use run_words::OrderWord;
+use scalar_laws::{Mod1000, Residue};
+use std::alloc::{AllocError, Global};
+use std::process::Abort;
+use std::test::Fail;
+
+/// The values that a job prints, all numbers being residues below 1000.
+fn printed_residues(alloc: Global, given: &Given) -> Result<Vec<i128>, AllocError>
+    requires valid { IsValid given.now.job.value }
+    requires local { IsLocalJob given.now.job.value }
+    requires fitting { IsFitting given.now.job.value (map file_of given.now.files.items) }
+{
+    let mut values = Vec::new(alloc);
+    let mut wire = MailRoom::new(alloc);
+    if let Ok(End::Done(outcome)) = run_with::<Residue<Mod1000>, MailRoom>(
+        alloc,
+        &given.job,
+        &given.files,
+        &mut wire,
+        &given.order,
+    ) {
+        for sheet in &outcome.sheets {
+            for cell in sheet.cells.as_slice() {
+                values.push(cell.value)?;
+            }
+        }
+    }
+    Ok(values)
+}
+
+#[test]
+fn a_job_runs_on_residues(rt: HostRuntime) -> Result<(), Fail> {
+    let alloc = rt.alloc();
+    let job =
+        "ranks = 2\n[[map]]\nname = \"u\"\nkind = \"uniform\"\nsize = 3\n[[vector]]\nname = \"x\"\nmap = \"u\"\nfile = \"x.mtx\"\n[[do]]\nop = \"update\"\nname = \"z\"\nx = \"x\"\ny = \"x\"\nalpha = 2\n[[do]]\nop = \"print\"\nvalue = \"z\"\n";
+    let x = "%%MatrixMarket matrix array integer general\n3 1\n1\n-1\n1000\n";
+    let mut files = MemFiles::new(alloc);
+    files.put("j.toml", job.as_bytes())?;
+    files.put("x.mtx", x.as_bytes())?;
+    let values = match read_given(alloc, &mut files, "j.toml", OrderWord::Fifo) {
+        Ok(given) => printed_residues(alloc, &given)?,
+        Err(_) => Vec::new(alloc),
+    };
+    assert_eq!(rt; values.as_slice(), [3, 997, 0].as_slice());
+    Ok(())
+}
