@@ -21,10 +21,10 @@ ghost use Rattle.model_defs.specs.FileMatrix.{file_matrix};
 ghost use Rattle.gathered_rows.specs.Conditions.{CanBeGathered};
 
 use crate::dealing::{bring_dealt, new_blocks};
-pub use sums::sums_of;
 use model_defs::{Cell, FileData, Mirror};
 use scalar_laws::Scalar;
 use std::alloc::{AllocError, Global};
+pub use sums::sums_of;
 
 /// The cells of a file's matrix by row, then column, as `ranks` ranks gather them: entry k, counted from 0 in file
 /// order, is dealt to rank k mod `ranks`, both of its places together; each row is brought to its owner in the
