@@ -13,15 +13,13 @@ use Rattle.multivector.specs.Vectors.{VectorState}
 use Rattle.peers.specs.Peers.{PeerState}
 use Rattle.peers.specs.Protocols.{Protocol, stands_in}
 use Rattle.rank_phases.specs.PhasedPeers.{IsResult}
-use Rattle.rank_phases.specs.Phases.{IsPhased, names_from, names_to}
-use Rattle.rank_phases.proofs.PhaseProtocols.{goes-phased}
+use Rattle.rank_phases.specs.Phases.{names_from, names_to}
 use Rattle.model_defs.specs.declared.job.Job.{Job}
 use Rattle.model_defs.specs.Letters.{letter_names, names_of_phases}
 use Rattle.model_defs.specs.Local.{IsLocalJob}
 use Rattle.model_defs.specs.Machine.{job_protocol, piece}
 use Rattle.model_defs.specs.Makers.{value_count}
 use Rattle.model_defs.specs.Phases.{phases}
-use Rattle.job_phases.proofs.ByPhase.{goes-by-phase}
 use Rattle.job_phases.proofs.LocalJobs.{no-phases as without-phases}
 use Rattle.rank_values.specs.Vectors.{HasOver, global_table, is_over_there}
 use Rattle.rank_core.specs.declared.worker.JobWorker.{JobWorker}
@@ -38,10 +36,8 @@ if-ok (Err e) p f = tt
 pub no-names : (job : Job) (files : List File) → IsLocalJob job → letter_names job files ≡ []
 no-names job files local = ap (names_of_phases job files 0) (without-phases job local)
 
-pub no-phases : {S : Type 0} (R : Semiring S) (F : Conversions S) (job : Job) (files : List File) → IsLocalJob job → IsPhased (job_protocol R F job files) 0
-no-phases R F job files local =
-    subst (IsPhased (job_protocol R F job files)) (ap length (without-phases job local))
-    (goes-phased (job_protocol R F job files) (length (phases job)) (goes-by-phase R F job files))
+pub none-entered : (job : Job) → IsLocalJob job → length (phases job) ≡ 0
+none-entered job local = ap length (without-phases job local)
 
 pub none-sent : {S : Type 0} (R : Semiring S) (F : Conversions S) (job : Job) (files : List File) (P : Protocol) (phase rank : ℕ) → IsLocalJob job → P ≡ job_protocol R F job files
     → (names_from P.names phase rank ≡ []) × (names_to P.names phase rank ≡ [])

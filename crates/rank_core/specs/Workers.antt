@@ -9,6 +9,7 @@ use Rattle.model_defs.specs.declared.job.Job.{Job}
 use Rattle.model_defs.specs.Machine.{job_protocol, piece}
 use Rattle.model_defs.specs.Makers.{value_count}
 use Rattle.model_defs.specs.Maps.{list_of}
+use Rattle.model_defs.specs.Phases.{phases}
 use Rattle.model_defs.specs.Shapes.{shape}
 use Rattle.rank_values.specs.Vectors.{global_table}
 use Rattle.rank_core.specs.declared.worker.JobWorker.{JobWorker}
@@ -31,6 +32,6 @@ pub record IsJobWorker {S : Type 0} (R : Semiring S) (F : Conversions S) (worker
   pub files : List File
   pub input : IsRankInput F worker.job.value files worker.me worker.share
   pub protocol : s.protocol ≡ job_protocol R F worker.job.value files
-  pub phases : s.phases ≡ 0
+  pub phases : s.phases ≡ length (phases worker.job.value)
   pub rank : s.rank ≡ worker.me
   pub made : 0 < s.entered → AreOwnValues R F worker.job.value files worker.me (value_count worker.job.value) worker.values.items

@@ -1,7 +1,8 @@
 //! What a rank of a job does in its phases.
-ghost use Rattle.std.specs.Prelude.{◌≡◌, List};
+ghost use Rattle.std.specs.Prelude.{◌≡◌, List, length};
 ghost use Rattle.mm_text.specs.Reading.{File};
 ghost use Rattle.model_defs.specs.Machine.{job_protocol};
+ghost use Rattle.model_defs.specs.Phases.{phases};
 ghost use Rattle.rank_phases.specs.Stages.{beginning};
 ghost use Rattle.rank_core.specs.Inputs.{IsRankInput};
 
@@ -32,7 +33,7 @@ impl<S: Scalar> JobWorker<S> {
     /// A worker that entered no phase.
     pub(crate) fn new(alloc: Global, me: u32, job: Rc<Job>, share: Share) -> JobWorker<S>
         ensures stands { (files : List File) → IsRankInput S.conversions job.value files me share
-            → IsJobWorker S.semiring S.conversions result (beginning (job_protocol S.semiring S.conversions job.value files) 0 me) }
+            → IsJobWorker S.semiring S.conversions result (beginning (job_protocol S.semiring S.conversions job.value files) (length (phases job.value)) me) }
     {
         JobWorker {
             alloc,
