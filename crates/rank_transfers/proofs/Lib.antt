@@ -1,0 +1,4 @@
+pub mod Freed
+pub mod Packed
+pub mod Found
+pub mod Came

@@ -114,6 +114,7 @@ impl<S: Scalar> Arriving<S> {
             (table_letter S.semiring S.conversions source.now.columns (global_table source.now) (rows_to self.now.plan source.now.map to))) }
         ensures err { OnErr result (leases pool.new ≡ leases pool.old) }
     {
+        let _ = source.map().len();
         let rows = self.plan.exports_to(to).len() as u64;
         make_room(letter_length(rows, source.columns()), pool)?;
         Ok(vector_moves::pack(&self.transfer, source, to, pool))
