@@ -9,7 +9,6 @@ use Rattle.scalar_laws.specs.Semiring.{Semiring}
 use Rattle.scalar_laws.specs.Conversions.{Conversions}
 use Rattle.tables.specs.declared.Cell.{Cell}
 use Rattle.tables.specs.Indices.{AreBelow, AreDistinct, count_from}
-use Rattle.tables.specs.Tables.{Table}
 use Rattle.map_core.specs.Classes.{index_at, indices_at}
 use Rattle.map_core.proofs.Places.{local_index-from}
 use Rattle.letter_codec.specs.Letters.{letter_bytes, number_bytes}

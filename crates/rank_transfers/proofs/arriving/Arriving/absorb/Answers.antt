@@ -31,8 +31,8 @@ returns-clause-rows g c =
     let from = c.args.from in
     let plan = ap (λ t. t.plan) c.self.invariant.transfer_is in
     let Q : PlanLists → Type 0 = λ p. (words numbers : List ℕ) → IsLetter Nums words numbers → bytes ≡ letter_bytes Nums words numbers → AreDistinct (remote_list p from)
-        → by_index new ≡ gathered R own.mode true (by_index own.vector) (rows_of (letter_vector F own.vector (remote_list p from) numbers) (indices_at own.vector.map (remote_list p from)) ∷ []) in
+    → by_index new ≡ gathered R own.mode true (by_index own.vector) (rows_of (letter_vector F own.vector (remote_list p from) numbers) (indices_at own.vector.map (remote_list p from)) ∷ []) in
     let P : ArrivingState _ → Type 0 = λ a. (letter : IsRowsLetter a.vector.columns bytes (rows_from a.plan a.vector.map from))
-        → global_table new ≡ after_table R a.mode (global_table a.vector) (numbers_table F a.vector.columns (rows_from a.plan a.vector.map from) letter.numbers) in
+    → global_table new ≡ after_table R a.mode (global_table a.vector) (numbers_table F a.vector.columns (rows_from a.plan a.vector.map from) letter.numbers) in
     subst P c.self.view_is
     (absorbed-table F R own.mode own.vector new (remote_list own.plan from) bytes (subst Q plan c.in-Ok.ensures.letter) (c.self.invariant.targets.once from))

@@ -1,4 +1,4 @@
-use Rattle.std.proofs.Common.{◌≡◌, List, ℕ, sym, ap, subst, ◌∙◌}
+use Rattle.std.proofs.Common.{List, ℕ, sym, ap, subst, ◌∙◌}
 use Rattle.tables.specs.Indices.{AreDistinct}
 use Rattle.map_core.specs.Plans.{PlanLists, export_list}
 use Rattle.byte_pool.specs.Leases.{Leases, leases, with_lease}
