@@ -2,3 +2,5 @@ pub mod Freed
 pub mod Packed
 pub mod Found
 pub mod Came
+pub mod Listed
+pub mod Imports

@@ -20,6 +20,7 @@
 #![tactic(auto)]
 
 mod arriving;
+pub mod laws;
 mod room;
 
 pub use arriving::Arriving;
