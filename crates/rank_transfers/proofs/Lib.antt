@@ -4,3 +4,4 @@ pub mod Found
 pub mod Came
 pub mod Listed
 pub mod Imports
+pub mod JobBytes
