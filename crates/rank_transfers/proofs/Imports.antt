@@ -1,19 +1,18 @@
 -- The plan of an import of a rank of a job.
-use Rattle.std.proofs.Common.{◌≡◌, ℕ, ◌+◌, ◌<◌, ◌≤◌, Bool, true, ◌&&◌, cond, not, eqb, ltb, List, [], ◌∷◌, ◌++◌, length, map, filter, Option, None, inl, inr, refl, sym, ap, subst, ◌∙◌, arith}
+use Rattle.std.proofs.Common.{◌≡◌, ℕ, ◌<◌, ◌≤◌, Bool, true, ◌&&◌, cond, not, List, [], ◌++◌, length, filter, None, inl, inr, refl, sym, ap, subst, ◌∙◌, arith}
 use Rattle.std.proofs.lemmas.Bool.{cases_lt, eq-eqb}
 use Rattle.std.proofs.lemmas.List.{length-map}
 use Rattle.tables.specs.Indices.{stands, AreBelow, AreDistinct, count_from}
-use Rattle.map_core.specs.Classes.{indices_at, permuted, place, places, same_count}
+use Rattle.map_core.specs.Classes.{indices_at, place}
 use Rattle.map_core.specs.Plans.{PlanLists, export_list, remote_list}
 use Rattle.map_core.proofs.Accepted.{ArePlaced}
 use Rattle.map_core.proofs.Members.{AreDistinct-filter, and_true, stands-filter}
 use Rattle.import_plan.specs.Imports.{Import, import_lists}
-use Rattle.multivector.specs.Vectors.{VectorState}
 use Rattle.vector_moves.specs.Moves.{AreMoves, own_sources, own_targets}
 use Rattle.vector_moves.proofs.Wanted.{own-moves}
 use Rattle.mm_text.specs.Reading.{File}
 use Rattle.model_defs.specs.declared.job.Job.{Job}
-use Rattle.model_defs.specs.Maps.{has_index, list_of}
+use Rattle.model_defs.specs.Maps.{list_of}
 use Rattle.model_defs.specs.Plans.{lacking, owns, passes, remote}
 use Rattle.model_defs.specs.declared.phase.Plan.{Plan}
 use Rattle.model_defs.specs.declared.phase.Plan.TheVariants.{ImportPlan}
@@ -24,7 +23,7 @@ use Rattle.model_defs.proofs.Filters.{and}
 use Rattle.rank_stages.proofs.ShortLists.{sent-few}
 use Rattle.rank_values.specs.Vectors.{global_table}
 use Rattle.rank_transfers.specs.Arrivals.{HasFewRows, HasTargets}
-use Rattle.rank_transfers.specs.JobRows.{IsJobImport, CanBegin, ImportsCanBegin, OwnRowsAreBrought, RowsAreSent, RowsCome}
+use Rattle.rank_transfers.specs.JobRows.{IsJobImport, ImportsCanBegin, OwnRowsAreBrought, RowsAreSent, RowsCome}
 use Rattle.rank_transfers.proofs.Listed.{all-placed, both-kept, beyond-list, distinct-places, in-list, same-test}
 
 module _ (job : Job) (files : List File) (source target p : ℕ) where

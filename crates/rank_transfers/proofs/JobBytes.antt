@@ -1,9 +1,8 @@
 -- The letters of copied values.
-use Rattle.std.proofs.Common.{◌≡◌, ℕ, zero, suc, ◌+◌, ◌*◌, List, [], ◌∷◌, ◌++◌, length, map, refl, sym, ap, ◌∙◌, arith, length-append}
+use Rattle.std.proofs.Common.{◌≡◌, ℕ, ◌*◌, List, [], ◌∷◌, length, sym, ap, ◌∙◌, arith, length-append}
 use Rattle.std.proofs.lemmas.List.{length-map}
 use Rattle.scalar_laws.specs.Semiring.{Semiring}
 use Rattle.scalar_laws.specs.Conversions.{Conversions}
-use Rattle.tables.specs.declared.Cell.{Cell}
 use Rattle.tables.specs.Indices.{count_from}
 use Rattle.tables.specs.Tables.{found}
 use Rattle.distributor.proofs.Numbered.{length-count_from}
@@ -11,7 +10,7 @@ use Rattle.letter_codec.specs.declared.kind.Kind.TheVariants.{Nums}
 use Rattle.letter_codec.specs.Letters.{letter_bytes}
 use Rattle.vector_moves.proofs.Absorbing.{same-numbers}
 use Rattle.model_defs.specs.Machine.{cells_at, place_bytes}
-use Rattle.model_defs.specs.Plans.{One, sent_rows}
+use Rattle.model_defs.specs.Plans.{sent_rows}
 use Rattle.model_defs.specs.Shapes.{shape}
 use Rattle.model_defs.specs.Stages.{transfer_at}
 use Rattle.rank_stages.specs.DataLaws.{full_places, row_places}

@@ -5,3 +5,4 @@ pub mod Came
 pub mod Listed
 pub mod Imports
 pub mod JobBytes
+pub mod Moved

@@ -1,5 +1,6 @@
 //! Laws over transfers, each the contract of a function that does nothing.
 ghost use Rattle.rank_transfers.specs.JobLetters.{LettersAreContent, LettersAreRows, LettersAreTables};
+ghost use Rattle.rank_transfers.specs.JobMoves.{MovesAreBegun};
 ghost use Rattle.rank_transfers.specs.JobRows.{ImportsCanBegin, OwnRowsAreBrought, RowsAreSent, RowsCome};
 
 use scalar_laws::Scalar;
@@ -19,4 +20,9 @@ pub fn letters_serve_jobs<S: Scalar>()
     ensures content { LettersAreContent S.semiring S.conversions }
     ensures rows { LettersAreRows S.semiring S.conversions }
     ensures tables { LettersAreTables S.semiring S.conversions }
+{}
+
+/// A value that is made by a move: what its rank begins with zeros is what the rank of the job gathers first.
+pub fn moves_are_begun<S: Scalar>()
+    ensures { MovesAreBegun S.semiring S.conversions }
 {}
