@@ -1,5 +1,5 @@
 -- The texts of a job and of a schedule, of which the front was read: whether they are accepted, and what stops at them.
-use Rattle.std.proofs.Common.{◌≡◌, ◌+◌, ◌<◌, ℕ, List, [], ◌∷◌, take, length, Option, Some, Result, Ok, Err, codes, sym, ap, ◌∙◌}
+use Rattle.std.proofs.Common.{◌≡◌, ◌+◌, ◌<◌, ℕ, List, [], ◌∷◌, take, length, Option, Some, Result, Ok, Err, codes, sym, ap, ◌∙◌, arith}
 use Rattle.outside.specs.Reads.{HasText, Source}
 use Rattle.outside.proofs.Sources.{HasText-map}
 use Rattle.model_defs.specs.declared.job.Job.{Job}
@@ -47,32 +47,40 @@ module _ {A Fault : Type 0} (kind : Fault → TextFault) (most : ℕ) (reads : L
 
 -- ---- the job
 
-module _ (told : Option Source) (name bytes seen : List ℕ) (same : seen ≡ bytes) (front : HasText told name (λ text. bytes ≡ take 1048577 text)) where
+module _ (told : Option Source) (name bytes seen : List ℕ) (most : ℕ) (limit : most ≡ 1048576) (same : seen ≡ bytes)
+    (front : HasText told name (λ text. bytes ≡ take (most + 1) text)) where
+  too_long-job : (text : List ℕ) → most < length text → job_of text ≡ Err (Limit (codes "job"))
+  too_long-job text h = long_job text (omega (arith, limit, h))
+
   pub job-told : (job : Job) → or_refused name text_fault.Job (job_of seen) ≡ Ok job → HasText told name (λ text. text ≡ bytes)
-  job-told job e = accepted text_fault.Job 1048576 job_of (Limit (codes "job")) long_job told name bytes seen same front job e
+  job-told job e = accepted text_fault.Job most job_of (Limit (codes "job")) too_long-job told name bytes seen same front job e
 
   pub job-refused : (fault : InputFault) → Stops [] (or_refused name text_fault.Job (job_of seen)) fault
       → SomeSource told (λ source. Stops (name ∷ []) (job_at source name) fault)
-  job-refused fault h = some-refused text_fault.Job 1048576 job_of (Limit (codes "job")) long_job told name bytes seen same front fault h
+  job-refused fault h = some-refused text_fault.Job most job_of (Limit (codes "job")) too_long-job told name bytes seen same front fault h
 
 pub job-is : (name bytes seen : List ℕ) (job : Job) → seen ≡ bytes → or_refused name text_fault.Job (job_of seen) ≡ Ok job → job_of bytes ≡ Ok job
 job-is name bytes seen job same e = ap job_of (sym same) ∙ not_refused text_fault.Job name (job_of seen) job e
 
 -- ---- the schedule
 
-module _ (told : Option Source) (name bytes seen : List ℕ) (same : seen ≡ bytes) (front : HasText told name (λ text. bytes ≡ take 67108865 text)) where
+module _ (told : Option Source) (name bytes seen : List ℕ) (most : ℕ) (limit : most ≡ 67108864) (same : seen ≡ bytes)
+    (front : HasText told name (λ text. bytes ≡ take (most + 1) text)) where
+  too_long-schedule : (text : List ℕ) → most < length text → schedule_of text ≡ Err TooLong
+  too_long-schedule text h = long_schedule text (omega (arith, limit, h))
+
   pub schedule-told : (entries : List Entry) → or_refused name text_fault.Schedule (schedule_of seen) ≡ Ok entries → HasText told name (λ text. text ≡ bytes)
-  schedule-told entries e = accepted text_fault.Schedule 67108864 schedule_of TooLong long_schedule told name bytes seen same front entries e
+  schedule-told entries e = accepted text_fault.Schedule most schedule_of TooLong too_long-schedule told name bytes seen same front entries e
 
   pub schedule-refused : (job : ReadText) → (job.name.now ≡ name → ⊥) → TellsText told job → (fault : InputFault)
       → Stops [] (or_refused name text_fault.Schedule (schedule_of seen)) fault
       → SomeSource told (λ source. GivesText source job × Stops (name ∷ []) (order_at source (listed name)) fault)
   schedule-refused job apart tells fault h =
-      some-texts told job.name.now name (λ text. text ≡ job.bytes.items) (λ text. bytes ≡ take 67108865 text) _ apart
+      some-texts told job.name.now name (λ text. text ≡ job.bytes.items) (λ text. bytes ≡ take (most + 1) text) _ apart
       (λ source text more named is named2 is2. (
         named ∙ ap Some is,
         stops-then (name ∷ []) (entries_at source name) _ fault
-            (refused-there text_fault.Schedule 67108864 schedule_of TooLong long_schedule told name bytes seen same front source more named2 is2 fault h),
+            (refused-there text_fault.Schedule most schedule_of TooLong too_long-schedule told name bytes seen same front source more named2 is2 fault h),
       ))
       tells front
 
