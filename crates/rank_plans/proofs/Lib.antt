@@ -1,0 +1,7 @@
+mod Known
+mod Found
+mod Fresh
+mod Targets
+mod Wants
+mod Imported
+mod Changes

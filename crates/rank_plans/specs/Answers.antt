@@ -45,9 +45,17 @@ AreRanks P (owner ∷ owners) = ((q : ℕ) → owner ≡ Some q → q < P) × Ar
 abbrev pub lacked_in : (source target : List ℕ) → List ℕ
 lacked_in source target = filter (λ g. not (stands g source)) target
 
+-- the first of the owners, if there is one, and the rest of them
+abbrev pub first_owner : List (Option ℕ) → Option ℕ
+first_owner [] = None
+first_owner (owner ∷ owners) = owner
+
+abbrev pub rest_owners : List (Option ℕ) → List (Option ℕ)
+rest_owners [] = []
+rest_owners (owner ∷ owners) = owners
+
 -- The owners of a target's indices: rank me owns those that its source has, and of the others the owners are known in turn.
 abbrev pub target_owners : (me : ℕ) → (source target : List ℕ) → List (Option ℕ) → List (Option ℕ)
 target_owners me source [] owners = []
-target_owners me source (x ∷ xs) [] = (if stands x source then Some me else None) ∷ target_owners me source xs []
-target_owners me source (x ∷ xs) (owner ∷ owners) =
-    if stands x source then Some me ∷ target_owners me source xs (owner ∷ owners) else owner ∷ target_owners me source xs owners
+target_owners me source (x ∷ xs) owners =
+    (if stands x source then Some me else first_owner owners) ∷ target_owners me source xs (if stands x source then owners else rest_owners owners)

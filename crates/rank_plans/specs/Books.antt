@@ -1,6 +1,6 @@
 -- What a rank keeps of the maps and plans of its job.
 use Rattle.std.specs.Prelude.{◌≡◌, ℕ, ◌≤◌, ◌<◌, ◌==◌, Bool, List, [], All, Option, None, Some, is_some, filter}
-use Rattle.std.specs.List.{find, slice_index_or}
+use Rattle.std.specs.List.{find}
 use Rattle.map_core.specs.Classes.{owns}
 use Rattle.map_core.specs.Plans.{PlanLists}
 use Rattle.directory.specs.Directories.{owner_of}
@@ -8,7 +8,7 @@ use Rattle.model_defs.specs.declared.phase.Plan.{Plan}
 use Rattle.model_defs.specs.Transfers.{same_plan}
 use Rattle.rank_plans.specs.declared.registered.Registered.{Registered}
 use Rattle.rank_plans.specs.Answers.{known_at}
-use Rattle.rank_plans.specs.Tasks.{Task}
+use Rattle.rank_plans.specs.Tasks.{Task, asked_by, told_by}
 
 -- the maps that are registered, and the plans that are begun
 pub record Book : Type 0 where
@@ -51,7 +51,7 @@ lacking_in (Some t) = t.lacking
 
 abbrev pub asked_in : Option Task → ℕ → List ℕ
 asked_in None q = []
-asked_in (Some t) q = slice_index_or t.asked q []
+asked_in (Some t) q = asked_by t q
 
 abbrev pub owners_in : Option Task → ℕ → Option ℕ
 owners_in None g = None
@@ -59,7 +59,7 @@ owners_in (Some t) g = known_at t.lacking t.owners g
 
 abbrev pub told_in : Option Task → ℕ → List ℕ
 told_in None q = []
-told_in (Some t) q = slice_index_or t.told q []
+told_in (Some t) q = told_by t q
 
 abbrev pub made_in : Option Task → Option PlanLists
 made_in None = None

@@ -1,14 +1,14 @@
 -- What a rank keeps of one plan.
-use Rattle.std.specs.Prelude.{◌≡◌, ℕ, ◌<◌, ◌≤◌, ◌^◌, ◌==◌, if◌then◌else◌, List, [], length, map, All, Option, None, Some}
+use Rattle.std.specs.Prelude.{◌≡◌, ℕ, ◌<◌, ◌≤◌, ◌^◌, ◌==◌, if◌then◌else◌, List, [], length, map, All, Option, None, Some, filter}
 use Rattle.std.specs.List.{range_with_len, slice_index_or}
 use Rattle.map_core.specs.Layouts.{AreDistinct}
 use Rattle.map_core.specs.Homes.{homed}
-use Rattle.map_core.specs.Classes.{same_count, permuted, indices_at, places}
+use Rattle.map_core.specs.Classes.{owns, same_count, permuted, indices_at, places}
 use Rattle.map_core.specs.Plans.{PlanLists}
 use Rattle.map_core.specs.Uniform.{uniform_layout}
 use Rattle.map_core.specs.Layouts.{owner}
 use Rattle.model_defs.specs.declared.phase.Plan.{Plan}
-use Rattle.rank_plans.specs.Answers.{AreRanks}
+use Rattle.rank_plans.specs.Answers.{known_at, AreRanks}
 
 pub record Task : Type 0 where
   pub plan : Plan
@@ -34,6 +34,16 @@ pub record IsTask (t : Task) : Type 0 where
   pub known : AreRanks t.ranks t.owners
   pub asked : length t.asked ≡ t.ranks
   pub told : length t.told ≡ t.ranks
+
+-- the indices that are lacked and that rank q owns, and what rank q asked and told
+abbrev pub owned_of : Task → ℕ → List ℕ
+owned_of t q = filter (λ g. owns (known_at t.lacking t.owners g) q) t.lacking
+
+abbrev pub asked_by : Task → ℕ → List ℕ
+asked_by t q = slice_index_or t.asked q []
+
+abbrev pub told_by : Task → ℕ → List ℕ
+told_by t q = slice_index_or t.told q []
 
 -- an empty list for each rank but this one
 abbrev pub only_of : (me P : ℕ) → List ℕ → List (List ℕ)

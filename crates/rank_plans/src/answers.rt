@@ -1,7 +1,8 @@
 //! Questions for owners, and their answers.
 ghost use Rattle.std.specs.Prelude.{◌≡◌, ◌<◌, ◌≤◌, ◌^◌, All, map, length, IfOk};
+ghost use Rattle.map_core.specs.Classes.{owns};
 ghost use Rattle.map_core.specs.Homes.{is_home};
-ghost use Rattle.map_core.specs.Layouts.{owner};
+ghost use Rattle.map_core.specs.Layouts.{owner, AreDistinct};
 ghost use Rattle.map_core.specs.Uniform.{uniform_layout};
 ghost use Rattle.directory.specs.Directories.{answer_for};
 ghost use Rattle.rank_plans.specs.Answers.{filled, named_by, owned_by, target_owners};
@@ -87,6 +88,16 @@ pub(crate) fn owners_by_rule(
     Ok(owners)
 }
 
+/// Whether the owner is this rank.
+fn is_owner(owner: Option<u32>, rank: u32) -> bool
+    ensures is { result ≡ owns owner rank }
+{
+    match owner {
+        Some(known) => known == rank,
+        None => false,
+    }
+}
+
 /// Those of the indices that rank `to` owns, by the owners beside them. `Err` means that memory ran out.
 pub(crate) fn owned_indices(
     alloc: Global,
@@ -99,7 +110,7 @@ pub(crate) fn owned_indices(
 {
     let mut owned = Vec::new(alloc);
     for at in 0..gids.len() {
-        if owners[at] == Some(to) {
+        if is_owner(owners[at], to) {
             owned.push(gids[at])?;
         }
     }
@@ -116,6 +127,7 @@ pub(crate) fn owners_of_target(
     known: &[Option<u32>],
 ) -> Result<Vec<Option<u32>>, AllocError>
     ensures owners { IfOk result (λ owners. owners.items ≡ target_owners me source.now target.now known.now) }
+    ensures distinct { AreDistinct target.now }
 {
     let mut owners = Vec::with_capacity(alloc, target.len() as usize)?;
     let mut next = 0;

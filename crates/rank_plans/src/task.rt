@@ -1,12 +1,12 @@
 //! What is kept of one plan.
-ghost use Rattle.std.specs.Prelude.{◌≡◌, ◌<◌, ◌≤◌, ◌^◌, ℕ, [], true, All, Some, length, is_some, map, slice_set, IfOk, OnOk};
-ghost use Rattle.std.specs.List.{range_with_len, slice_index_or};
+ghost use Rattle.std.specs.Prelude.{◌≡◌, ◌<◌, ◌≤◌, ◌^◌, ℕ, [], true, All, Some, length, is_some, map, slice_set, if◌then◌else◌, IfOk, OnOk};
+ghost use Rattle.std.specs.List.{range_with_len};
 ghost use Rattle.map_core.specs.Layouts.{stands, AreDistinct};
 ghost use Rattle.map_core.specs.Homes.{homed, is_home};
 ghost use Rattle.map_core.specs.Plans.{IsWithin};
 ghost use Rattle.directory.specs.Directories.{answer_for};
-ghost use Rattle.rank_plans.specs.Answers.{filled, lacked_in, owned_by};
-ghost use Rattle.rank_plans.specs.Tasks.{asking, import_of, only_of, ruled};
+ghost use Rattle.rank_plans.specs.Answers.{answered, filled, known_at, lacked_in};
+ghost use Rattle.rank_plans.specs.Tasks.{asked_by, asking, import_of, owned_of, ruled, told_by};
 
 use crate::answers::{
     answer_words, filled_owners, owned_indices, owners_by_rule, owners_of_target,
@@ -143,6 +143,7 @@ impl PlanTask {
     ) -> Result<(), AllocError>
         requires known_rank { from < self.old.ranks }
         ensures absorbed { OnOk result (self.new ≡ record self.old { asked = slice_set self.old.asked from words.now }) }
+        ensures asked { OnOk result (asked_by self.new from ≡ words.now) }
         ensures ranks { self.new.ranks ≡ self.old.ranks }
     {
         self.asked[from as usize] = Vec::from_slice(alloc, words)?;
@@ -157,7 +158,7 @@ impl PlanTask {
         to: u32,
     ) -> Result<Vec<u64>, AllocError>
         requires known_rank { to < self.now.ranks }
-        ensures answers { IfOk result (λ words. words.items ≡ map (answer_for directory.now) (slice_index_or self.now.asked to [])) }
+        ensures answers { IfOk result (λ words. words.items ≡ map (answer_for directory.now) (asked_by self.now to)) }
     {
         answer_words(alloc, directory, &self.asked[to as usize])
     }
@@ -171,6 +172,7 @@ impl PlanTask {
     ) -> Result<(), AllocError>
         requires known_rank { from < self.old.ranks }
         ensures absorbed { OnOk result (self.new ≡ record self.old { owners = filled (is_home self.old.ranks self.old.size from) self.old.ranks self.old.lacking self.old.owners words.now }) }
+        ensures known { OnOk result (length words.now ≡ length (homed self.old.ranks self.old.size from self.old.lacking) → (g : ℕ) → known_at self.new.lacking self.new.owners g ≡ (if stands g (homed self.old.ranks self.old.size from self.old.lacking) then answered self.old.ranks (homed self.old.ranks self.old.size from self.old.lacking) words.now g else known_at self.old.lacking self.old.owners g)) }
         ensures ranks { self.new.ranks ≡ self.old.ranks }
     {
         self.owners = filled_owners(
@@ -187,7 +189,7 @@ impl PlanTask {
 
     /// What is lacked of rank `to`. `Err` means that memory ran out.
     pub(crate) fn own(&self, alloc: Global, to: u32) -> Result<Vec<u64>, AllocError>
-        ensures own { IfOk result (λ words. words.items ≡ owned_by to self.now.lacking self.now.owners) }
+        ensures own { IfOk result (λ words. words.items ≡ owned_of self.now to) }
     {
         owned_indices(alloc, to, &self.lacking, &self.owners)
     }
@@ -201,6 +203,7 @@ impl PlanTask {
     ) -> Result<(), AllocError>
         requires known_rank { from < self.old.ranks }
         ensures absorbed { OnOk result (self.new ≡ record self.old { told = slice_set self.old.told from words.now }) }
+        ensures told { OnOk result (told_by self.new from ≡ words.now) }
         ensures ranks { self.new.ranks ≡ self.old.ranks }
     {
         self.told[from as usize] = Vec::from_slice(alloc, words)?;
@@ -217,10 +220,10 @@ impl PlanTask {
     ) -> Result<(), AllocError>
         requires own_rank { me < self.old.ranks }
         requires lacking { self.old.lacking ≡ lacked_in source.now.value target.now.value }
-        requires none_of_own { owned_by me self.old.lacking self.old.owners ≡ [] }
-        requires held { (q : ℕ) → q < self.old.ranks → All (λ g. stands g source.now.value ≡ true) (slice_index_or self.old.told q []) }
-        ensures made { OnOk result (self.new ≡ record self.old { made = Some (import_of me self.old.ranks source.now.value target.now.value (λ q. owned_by q self.old.lacking self.old.owners) (λ q. slice_index_or self.old.told q [])) }) }
-        ensures within { OnOk result (IsWithin (length source.now.value) (length target.now.value) (import_of me self.old.ranks source.now.value target.now.value (λ q. owned_by q self.old.lacking self.old.owners) (λ q. slice_index_or self.old.told q []))) }
+        requires none_of_own { owned_of self.old me ≡ [] }
+        requires held { (q : ℕ) → q < self.old.ranks → All (λ g. stands g source.now.value ≡ true) (told_by self.old q) }
+        ensures made { OnOk result (self.new ≡ record self.old { made = Some (import_of me self.old.ranks source.now.value target.now.value (owned_of self.old) (told_by self.old)) }) }
+        ensures within { OnOk result (IsWithin (length source.now.value) (length target.now.value) (import_of me self.old.ranks source.now.value target.now.value (owned_of self.old) (told_by self.old))) }
         ensures ranks { self.new.ranks ≡ self.old.ranks }
     {
         let owners = owners_of_target(alloc, me, source, target, &self.owners)?;
@@ -234,6 +237,7 @@ impl PlanTask {
 /// Accepts what each rank lacks.
 fn accept_all(import: &mut ImportPlan, told: &[Vec<Gid>]) -> Result<(), AllocError>
     requires of_each { length told.now ≡ import.old.ranks }
+    requires ranks_limit { import.old.ranks ≤ 32 }
     requires none { import.old.wants ≡ map (λ _. None) (range_with_len 0 import.old.ranks) }
     requires held { All (λ v. All (λ g. stands g import.old.source ≡ true) v.items) told.now }
     ensures accepted { OnOk result (import.new ≡ record import.old { wants = map (λ v. Some v.items) told.now }) }
