@@ -1,5 +1,5 @@
 -- Entries that are found by their keys, of which one is changed or a new one is added.
-use Rattle.std.proofs.Common.{◌≡◌, ℕ, ◌<◌, ◌≤◌, Bool, true, false, cond, List, [], ◌∷◌, ◌++◌, length, get_or, set, Option, None, Some, inl, inr, refl, sym, ap, subst, ◌∙◌}
+use Rattle.std.proofs.Common.{◌≡◌, ℕ, ◌<◌, ◌≤◌, Bool, true, false, cond, List, [], ◌∷◌, ◌++◌, length, get_or, set, Option, None, Some, inl, inr, refl, sym, ap, subst, ◌∙◌, arith}
 use Rattle.std.specs.List.{find, position_or_len, slice_get}
 use Rattle.std.specs.Option.{is_some, option_or}
 use Rattle.std.proofs.lemmas.List.Folds.{find_at, find-set, find_past, find-append}
@@ -18,6 +18,9 @@ place-within p xs e = elim (cases_lt (position_or_len p xs) (length xs)) [
 pub within-found : {A : Type 0} (p : A → Bool) (xs : List A) → position_or_len p xs < length xs → is_some (find p xs) ≡ true
 within-found p [] low = absurd (let bad : ⊥ = omega arith in bad)
 within-found p (x ∷ xs) low = ap is_some (find_at p (x ∷ xs) ∙ slice_get-get_or (x ∷ xs) (position_or_len p (x ∷ xs)) x low)
+
+pub past-none : {A : Type 0} (p : A → Bool) (xs : List A) → length xs ≤ position_or_len p xs → find p xs ≡ None
+past-none p xs high = find_at p xs ∙ slice_get_past xs (position_or_len p xs) high
 
 module _ {A K : Type 0} (key : A → K) (same : K → K → Bool) (same_is : (a b : K) → same a b ≡ true → a ≡ b) (itself : (a : K) → same a a ≡ true) where
   -- the entry of a key stands at this place

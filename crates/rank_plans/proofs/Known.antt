@@ -1,12 +1,13 @@
 -- Owners beside indices.
-use Rattle.std.proofs.Common.{◌≡◌, ℕ, suc, ◌+◌, ◌<◌, Bool, true, false, cond, not, ◌&&◌, ◌||◌, ◌==◌, nat_lt, List, [], ◌∷◌, length, map, Option, None, Some, ◌⊎◌, inl, inr, refl, sym, ap, subst, ◌∙◌, arith}
+use Rattle.std.proofs.Common.{◌≡◌, ℕ, zero, suc, ◌+◌, ◌<◌, ◌≤◌, Bool, true, false, cond, not, ◌&&◌, ◌||◌, ◌==◌, nat_lt, List, [], ◌∷◌, get_or, length, map, Option, None, Some, ◌⊎◌, inl, inr, refl, sym, ap, subst, ◌∙◌, arith}
 use Rattle.std.specs.Prelude.{filter}
+use Rattle.std.specs.Option.{is_some}
 use Rattle.std.proofs.lemmas.Bool.{eqb-true, eq-eqb}
 use Rattle.std.proofs.lemmas.Bool.Decides.{nat_tests}
 use Rattle.map_core.specs.Layouts.{stands, AreDistinct}
 use Rattle.map_core.specs.Classes.{owns}
 use Rattle.map_core.proofs.Members.{stands-filter}
-use Rattle.rank_plans.specs.Answers.{answered, filled, known_at, named_by, owned_by, AreRanks}
+use Rattle.rank_plans.specs.Answers.{answered, filled, known_at, named_by, no_owner, owned_by, word_of, AreRanks}
 
 -- two that differ are not the same index
 pub apart : (x g : ℕ) (xs : List ℕ) → stands x xs ≡ false → stands g xs ≡ true → (x == g) ≡ false
@@ -175,3 +176,27 @@ pub filled-pass : (test : ℕ → Bool) (P x : ℕ) (xs : List ℕ) (o : Option 
 filled-pass test P x xs o os [] h = ap (λ r. o ∷ r) (sym (filled-none test P xs os))
 filled-pass test P x xs o os (w ∷ ws) (inl none) = absurd (let bad : ⊥ = cc in bad)
 filled-pass test P x xs o os (w ∷ ws) (inr off) = ap (λ b. cond b (named_by P w ∷ filled test P xs os ws) (o ∷ filled test P xs os (w ∷ ws))) off
+
+-- an empty list at each place
+pub nothing-at : (xs : List ℕ) (q : ℕ) → get_or {A = List ℕ} (map (λ _. []) xs) q [] ≡ []
+nothing-at [] q = refl
+nothing-at (x ∷ xs) zero = refl
+nothing-at (x ∷ xs) (suc q) = nothing-at xs q
+
+-- the answers of a directory name the owners that it has
+pub answered-words : (P : ℕ) (D : ℕ → Option ℕ) (xs : List ℕ) (g : ℕ) → P ≤ 32 → ((h q : ℕ) → D h ≡ Some q → q < P) → stands g xs ≡ true → answered P xs (map (λ h. word_of (D h)) xs) g ≡ D g
+answered-words P D [] g few below on = absurd (let bad : ⊥ = cc in bad)
+answered-words P D (x ∷ xs) g few below on = go (x == g) refl on (answered-words P D xs g few below)
+  where
+    named : (o : Option ℕ) → D x ≡ o → named_by P (word_of o) ≡ o
+    named None e = let past : nat_lt no_owner P ≡ false = grind (arith, nat_tests) in ap (λ b. cond b (Some no_owner) None) past
+    named (Some q) e = let low : q < P = below x q e in let is : nat_lt q P ≡ true = grind (arith, nat_tests) in ap (λ b. cond b (Some q) None) is
+
+    go : (b : Bool) → (x == g) ≡ b → b || stands g xs ≡ true → (stands g xs ≡ true → answered P xs (map (λ h. word_of (D h)) xs) g ≡ D g)
+        → cond b (named_by P (word_of (D x))) (answered P xs (map (λ h. word_of (D h)) xs) g) ≡ D g
+    go true e on more = named (D x) refl ∙ ap D (eqb-true x g e)
+    go false e on more = more on
+
+pub some-size : (o : Option ℕ) → is_some o ≡ true → (n : ℕ) × (o ≡ Some n)
+some-size None e = cc
+some-size (Some n) e = (n, refl)

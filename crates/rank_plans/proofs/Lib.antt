@@ -5,3 +5,4 @@ mod Targets
 mod Wants
 mod Imported
 mod Changes
+mod Mapped

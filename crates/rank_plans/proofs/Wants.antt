@@ -47,7 +47,7 @@ want-next told at n none v d gs is same low entry items =
     ∙ set-append_seam front (get_or none at None) rest (Some gs)
     ∙ ap (λ w. front ++ Some w ∷ rest) (items ∙ ap (λ v. v.items) (sym entry))
     ∙ sym (ap (λ ws. ws ++ rest) (ap wants_of (take_more told at d low) ∙ map-append (λ v. Some v.items) (take at told) (get_or told at d ∷ []))
-      ∙ again front (Some (get_or told at d).items) rest)
+    ∙ again front (Some (get_or told at d).items) rest)
   where
     again : {A : Type 0} (xs : List A) (y : A) (zs : List A) → (xs ++ y ∷ []) ++ zs ≡ xs ++ y ∷ zs
     again [] y zs = refl
@@ -70,8 +70,10 @@ set-only P me xs low = ext_get_or [] (set (map (λ _. []) (range_with_len 0 P)) 
   where
     long : length (set (map (λ _. []) (range_with_len 0 P)) me xs) ≡ P
     long = length-set (map (λ _. []) (range_with_len 0 P)) me xs ∙ length-map-range_with_len (λ _. []) 0 P
+
     lengths : length (set (map (λ _. []) (range_with_len 0 P)) me xs) ≡ length (map (λ q. cond (eqb q me) xs []) (range_with_len 0 P))
     lengths = length-set (map (λ _. []) (range_with_len 0 P)) me xs ∙ length-map-range_with_len (λ _. []) 0 P ∙ sym (length-map-range_with_len (λ q. cond (eqb q me) xs []) 0 P)
+
     each : (i : ℕ) → i < P → get_or (set (map (λ _. []) (range_with_len 0 P)) me xs) i [] ≡ get_or (map (λ q. cond (eqb q me) xs []) (range_with_len 0 P)) i []
     each i h = by (eqb i me) refl ∙ sym (get_or-map-range_with_len (λ q. cond (eqb q me) xs []) 0 P i i [] h (omega arith))
       where

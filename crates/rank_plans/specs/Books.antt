@@ -17,12 +17,18 @@ pub record Book : Type 0 where
   pub maps : List Registered
   pub plans : List Task
 
+-- a directory of this rank of P ranks, whose owners are below P
+pub record IsOwnDirectory (rank P : ℕ) (r : Registered) : Type 0 where
+  pub me : r.directory.me ≡ rank
+  pub ranks : r.directory.ranks ≡ P
+  pub below : (g q : ℕ) → owner_of r.directory g ≡ Some q → q < P
+
 -- what every book keeps
 pub record IsBook (b : Book) : Type 0 where
   pub some_rank : 1 ≤ b.ranks
   pub ranks_limit : b.ranks ≤ 32
   pub own_rank : b.me < b.ranks
-  pub directories : All (λ r. (r.directory.me ≡ b.me) × (r.directory.ranks ≡ b.ranks)) b.maps
+  pub directories : All (IsOwnDirectory b.me b.ranks) b.maps
   pub tasks : All (λ t. t.ranks ≡ b.ranks) b.plans
 
 -- the directory of a map, and the task of a plan, if there is one

@@ -1,6 +1,6 @@
 //! The maps and plans of one rank.
-ghost use Rattle.std.specs.Prelude.{◌≡◌, ◌<◌, ◌≤◌, [], true, Some, is_some};
-ghost use Rattle.rank_plans.specs.Books.{has_map, has_plan, made_of};
+ghost use Rattle.std.specs.Prelude.{◌≡◌, ◌<◌, ◌≤◌, ℕ, [], true, Some, is_some};
+ghost use Rattle.rank_plans.specs.Books.{directory_of, has_map, has_plan, made_of};
 
 use crate::places::{map_place, task_place};
 use crate::registered::Registered;
@@ -49,10 +49,12 @@ impl PlanBook {
         }
     }
 
-    /// The rank whose book this is.
+    /// The rank whose book this is. The owners that directories have are ranks.
     pub fn me(&self) -> u32
         ensures me { result ≡ self.now.me }
         ensures known { self.now.me < self.now.ranks }
+        ensures ranks_limit { self.now.ranks ≤ 32 }
+        ensures owners { (m g q : ℕ) → directory_of self.now m g ≡ Some q → q < self.now.ranks }
     {
         self.me
     }
@@ -70,14 +72,20 @@ impl PlanBook {
     pub fn has_map(&self, map: u32) -> bool
         ensures begun { result ≡ has_map self.now map }
     {
-        map_place(&self.maps, map) < self.maps.len()
+        if map_place(&self.maps, map) < self.maps.len() {
+            return true;
+        }
+        false
     }
 
     /// Whether the plan was begun.
     pub fn has_plan(&self, plan: Plan) -> bool
         ensures begun { result ≡ has_plan self.now plan }
     {
-        task_place(&self.plans, plan) < self.plans.len()
+        if task_place(&self.plans, plan) < self.plans.len() {
+            return true;
+        }
+        false
     }
 
     /// The plan that was made, whose positions are local indices. It may be shared by `map_core::Plan::share`.

@@ -21,7 +21,8 @@ impl PlanBook {
         requires known_plan { has_plan self.now plan ≡ true }
         ensures words { IfOk result (λ words. words.items ≡ own_of self.now plan to) }
     {
-        self.plans[task_place(&self.plans, plan)].own(self.alloc, to)
+        let words = self.plans[task_place(&self.plans, plan)].own(self.alloc, to)?;
+        Ok(words)
     }
 
     /// Rank `from` lacks these indices of this one, by a plan that was begun. All else stays.
@@ -33,7 +34,8 @@ impl PlanBook {
         ensures stays { OnOk result (slices self.new ≡ record (slices self.old) { told = told_of self.new }) }
     {
         let at = task_place(&self.plans, plan);
-        self.plans[at].absorb_told(self.alloc, from, words)
+        self.plans[at].absorb_told(self.alloc, from, words)?;
+        Ok(())
     }
 
     /// Makes the plan of an import that was begun, of what is lacked of each rank and what each rank told. `source` and `target`
@@ -56,6 +58,7 @@ impl PlanBook {
         ensures stays { OnOk result (slices self.new ≡ record (slices self.old) { made = made_of self.new }) }
     {
         let at = task_place(&self.plans, plan);
-        self.plans[at].finish_import(self.alloc, self.me, source, target)
+        self.plans[at].finish_import(self.alloc, self.me, source, target)?;
+        Ok(())
     }
 }

@@ -26,7 +26,7 @@ impl PlanBook {
         requires distinct { AreDistinct lacking.items }
         ensures size { OnOk result (size_of self.new plan ≡ Some size) }
         ensures lacking { OnOk result (lacking_of self.new plan ≡ lacking.items) }
-        ensures asked { OnOk result ((q : ℕ) → q < self.old.ranks → asked_of self.new plan q ≡ (if q == self.old.me then homed self.old.ranks size q lacking.items else [])) }
+        ensures asked { OnOk result ((q : ℕ) → q < self.old.ranks → asked_of self.new plan q ≡ (if q == self.old.me then homed self.old.ranks size self.old.me lacking.items else [])) }
         ensures owners { OnOk result ((g : ℕ) → owners_of self.new plan g ≡ None) }
         ensures told { OnOk result ((q : ℕ) → told_of self.new plan q ≡ []) }
         ensures made { OnOk result (made_of self.new plan ≡ None) }
@@ -76,7 +76,8 @@ impl PlanBook {
         requires known_plan { has_plan self.now plan ≡ true }
         ensures words { IfOk result (λ words. (size : ℕ) → size_of self.now plan ≡ Some size → words.items ≡ homed self.now.ranks size to (lacking_of self.now plan)) }
     {
-        self.plans[task_place(&self.plans, plan)].questions(self.alloc, to)
+        let words = self.plans[task_place(&self.plans, plan)].questions(self.alloc, to)?;
+        Ok(words)
     }
 
     /// Rank `from` asked for the owners of these indices, by a plan that was begun. All else stays.
@@ -88,7 +89,8 @@ impl PlanBook {
         ensures stays { OnOk result (slices self.new ≡ record (slices self.old) { asked = asked_of self.new }) }
     {
         let at = task_place(&self.plans, plan);
-        self.plans[at].absorb_questions(self.alloc, from, words)
+        self.plans[at].absorb_questions(self.alloc, from, words)?;
+        Ok(())
     }
 
     /// The answers to what rank `to` asked by a plan that was begun, whose map of owners is `owner_map`: for each index in order its
@@ -100,7 +102,8 @@ impl PlanBook {
         ensures words { IfOk result (λ words. words.items ≡ map (λ g. word_of (directory_of self.now owner_map g)) (asked_of self.now plan to)) }
     {
         let directory = &self.maps[map_place(&self.maps, owner_map)].directory;
-        self.plans[task_place(&self.plans, plan)].answers(self.alloc, directory, to)
+        let words = self.plans[task_place(&self.plans, plan)].answers(self.alloc, directory, to)?;
+        Ok(words)
     }
 
     /// This rank answers what it asks itself by a plan that was begun, by its directory of the map of owners: so it knows the
@@ -114,8 +117,10 @@ impl PlanBook {
         ensures others { OnOk result ((other : Plan) (g : ℕ) → same_plan other plan && stands g (asked_of self.old plan self.old.me) ≡ false → owners_of self.new other g ≡ owners_of self.old other g) }
         ensures stays { OnOk result (slices self.new ≡ record (slices self.old) { owners = owners_of self.new }) }
     {
-        let words = self.tell_words(plan, owner_map, self.me)?;
-        self.absorb_tell(plan, self.me, &words)
+        let me = self.me();
+        let words = self.tell_words(plan, owner_map, me)?;
+        self.absorb_tell(plan, me, &words)?;
+        Ok(())
     }
 
     /// Rank `from` answered what it was asked by a plan that was begun: word k names the owner of the k-th index that this rank
@@ -129,6 +134,7 @@ impl PlanBook {
         ensures stays { OnOk result (slices self.new ≡ record (slices self.old) { owners = owners_of self.new }) }
     {
         let at = task_place(&self.plans, plan);
-        self.plans[at].absorb_answers(self.alloc, from, words)
+        self.plans[at].absorb_answers(self.alloc, from, words)?;
+        Ok(())
     }
 }

@@ -21,7 +21,7 @@ impl PlanBook {
         requires first { has_map self.old map ≡ false }
         requires size_limit { size ≤ 2 ^ 40 }
         requires below { All (λ g. g < size) own.now }
-        ensures directory { OnOk result ((g : ℕ) → directory_of self.new map g ≡ (if is_home self.old.ranks size self.old.me g && stands g own.now then Some self.old.me else None)) }
+        ensures directory { OnOk result ((g : ℕ) → directory_of self.new map g ≡ (if stands g own.now && is_home self.old.ranks size self.old.me g then Some self.old.me else None)) }
         ensures size { OnOk result (map_size_of self.new map ≡ Some size) }
         ensures other_directories { OnOk result ((m g : ℕ) → (m == map) ≡ false → directory_of self.new m g ≡ directory_of self.old m g) }
         ensures other_sizes { OnOk result ((m : ℕ) → (m == map) ≡ false → map_size_of self.new m ≡ map_size_of self.old m) }
@@ -62,7 +62,8 @@ impl PlanBook {
         ensures ranks { self.new.ranks ≡ self.old.ranks }
     {
         let at = map_place(&self.maps, map);
-        enter(&mut self.maps[at].directory, from, words)
+        enter(&mut self.maps[at].directory, from, words)?;
+        Ok(())
     }
 }
 
@@ -72,6 +73,7 @@ fn enter(directory: &mut Directory, from: u32, words: &[u64]) -> Result<(), Allo
     requires home { All (λ g. is_home directory.old.ranks directory.old.size directory.old.me g ≡ true) words.now }
     requires new { AreNew (owner_of directory.old) words.now }
     ensures owners { OnOk result ((g : ℕ) → owner_of directory.new g ≡ (if stands g words.now then Some from else owner_of directory.old g)) }
+    ensures below { ((g q : ℕ) → owner_of directory.old g ≡ Some q → q < directory.old.ranks) → (g q : ℕ) → owner_of directory.new g ≡ Some q → q < directory.old.ranks }
     ensures me { directory.new.me ≡ directory.old.me }
     ensures ranks { directory.new.ranks ≡ directory.old.ranks }
     ensures size { directory.new.size ≡ directory.old.size }

@@ -191,7 +191,8 @@ impl PlanTask {
     pub(crate) fn own(&self, alloc: Global, to: u32) -> Result<Vec<u64>, AllocError>
         ensures own { IfOk result (λ words. words.items ≡ owned_of self.now to) }
     {
-        owned_indices(alloc, to, &self.lacking, &self.owners)
+        let words = owned_indices(alloc, to, &self.lacking, &self.owners)?;
+        Ok(words)
     }
 
     /// Rank `from` lacks these of this one. `Err` means that memory ran out.
