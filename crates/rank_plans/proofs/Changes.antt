@@ -1,6 +1,6 @@
 -- What a book says once one task of it changed, or a new one was begun.
-use Rattle.std.proofs.Common.{◌≡◌, ℕ, ◌<◌, ◌≤◌, Bool, true, false, ◌&&◌, ◌==◌, cond, eqb, List, [], ◌∷◌, ◌++◌, length, get_or, set, slice_set, slice_index_or, Option, None, Some, All, refl, sym, ap, subst, ◌∙◌}
-use Rattle.std.specs.List.{find, position_or_len, slice_get}
+use Rattle.std.proofs.Common.{◌≡◌, ℕ, ◌<◌, ◌≤◌, Bool, true, false, ◌&&◌, ◌==◌, cond, eqb, List, [], ◌∷◌, ◌++◌, length, get_or, set, slice_set, Option, None, Some, All, refl, sym, ap, subst, ◌∙◌}
+use Rattle.std.specs.List.{position_or_len}
 use Rattle.std.specs.Option.{is_some}
 use Rattle.std.proofs.lemmas.Bool.{eqb-true, eqb-false, eq-eqb}
 use Rattle.std.proofs.lemmas.List.{get_or-set_other, get_or-set_same, length-set}
@@ -10,10 +10,9 @@ use Rattle.model_defs.specs.declared.phase.Plan.TheVariants.{ImportPlan, ExportP
 use Rattle.model_defs.specs.Transfers.{same_plan}
 use Rattle.map_core.specs.Plans.{PlanLists}
 use Rattle.model_defs.proofs.Filters.{both}
-use Rattle.rank_plans.specs.declared.registered.Registered.{Registered}
 use Rattle.rank_plans.specs.Answers.{known_at}
-use Rattle.rank_plans.specs.Tasks.{Task, asked_by, told_by}
-use Rattle.rank_plans.specs.Books.{Book, IsBook, slices, asked_in, asked_of, directory_of, lacking_in, lacking_of, made_in, made_of, map_in, map_size_in, map_size_of, owner_in, owners_in, owners_of, size_in, size_of, task_in, told_in, told_of}
+use Rattle.rank_plans.specs.Tasks.{Task}
+use Rattle.rank_plans.specs.Books.{Book, IsBook, slices, asked_in, asked_of, directory_of, lacking_in, made_in, made_of, map_size_of, owners_in, owners_of, size_in, task_in, told_in, told_of}
 use Rattle.rank_plans.proofs.Found.{IsFound, find-apart, find-new, find-old, find-put, find-stays, found-at, past-none, place-within, within-found}
 
 pub same-is : (a b : Plan) → same_plan a b ≡ true → a ≡ b

@@ -1,12 +1,12 @@
 -- What a book says once a directory of it changed, or a new one was begun.
-use Rattle.std.proofs.Common.{◌≡◌, ℕ, suc, ◌<◌, ◌≤◌, Bool, true, false, ◌&&◌, ◌==◌, cond, eqb, List, [], ◌∷◌, ◌++◌, length, get_or, set, slice_set, Option, None, Some, All, refl, sym, ap, subst, ◌∙◌, arith}
-use Rattle.std.specs.List.{find, position_or_len}
+use Rattle.std.proofs.Common.{◌≡◌, ℕ, suc, ◌<◌, ◌≤◌, Bool, true, false, ◌==◌, cond, List, [], ◌∷◌, ◌++◌, length, get_or, slice_set, Option, None, Some, All, refl, sym, ap, subst, arith}
+use Rattle.std.specs.List.{position_or_len}
 use Rattle.std.specs.Option.{is_some}
 use Rattle.std.proofs.lemmas.Bool.{eqb-true, eq-eqb}
 use Rattle.std.proofs.lemmas.List.Elements.{All-push}
-use Rattle.directory.specs.Directories.{Directory, owner_of}
+use Rattle.directory.specs.Directories.{Directory}
 use Rattle.rank_plans.specs.declared.registered.Registered.{Registered}
-use Rattle.rank_plans.specs.Books.{Book, IsBook, IsOwnDirectory, directory_of, map_in, map_size_in, map_size_of, owner_in}
+use Rattle.rank_plans.specs.Books.{Book, IsBook, IsOwnDirectory, directory_of, map_in, map_size_in, owner_in}
 use Rattle.rank_plans.proofs.Changes.{All-changed}
 use Rattle.rank_plans.proofs.Found.{IsFound, find-apart, find-new, find-old, find-put, find-stays, found-at, past-none, place-within, within-found}
 

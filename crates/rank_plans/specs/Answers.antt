@@ -1,5 +1,5 @@
 -- Who owns the indices that a rank lacks, as the homes of these indices answer it.
-use Rattle.std.specs.Prelude.{◌≡◌, ℕ, ◌<◌, ◌==◌, Bool, not, nat_lt, if◌then◌else◌, List, [], ◌∷◌, map, Option, None, Some, filter}
+use Rattle.std.specs.Prelude.{◌≡◌, ℕ, ◌<◌, ◌==◌, Bool, not, nat_lt, if◌then◌else◌, List, [], ◌∷◌, Option, None, Some, filter}
 use Rattle.std.specs.Option.{unwrap_or}
 use Rattle.map_core.specs.Layouts.{stands}
 use Rattle.map_core.specs.Classes.{owns}

@@ -1,5 +1,5 @@
 -- What a rank keeps of one plan.
-use Rattle.std.specs.Prelude.{◌≡◌, ℕ, ◌<◌, ◌≤◌, ◌^◌, ◌==◌, if◌then◌else◌, List, [], length, map, All, Option, None, Some, filter}
+use Rattle.std.specs.Prelude.{◌≡◌, ℕ, ◌<◌, ◌≤◌, ◌^◌, ◌==◌, if◌then◌else◌, List, [], length, map, All, Option, None, filter}
 use Rattle.std.specs.List.{range_with_len, slice_index_or}
 use Rattle.map_core.specs.Layouts.{AreDistinct}
 use Rattle.map_core.specs.Homes.{homed}

@@ -1,4 +1,4 @@
-use Rattle.std.proofs.Common.{[], ◌∷◌, ◌++◌, ◌+◌, ◌≡◌, ◌<◌, ◌≤◌, Option, None, Some, ◌⊎◌, true, false, cond, drop, get_or, length, inl, inr, subst, sym, ap, ◌∙◌, append_assoc, arith}
+use Rattle.std.proofs.Common.{[], ◌∷◌, ◌++◌, ◌+◌, ◌≡◌, ◌<◌, None, Some, ◌⊎◌, true, false, cond, drop, get_or, length, inl, inr, subst, sym, ap, ◌∙◌, append_assoc}
 use Rattle.std.proofs.lemmas.List.{drop_more, drop_all}
 use Rattle.map_core.specs.Homes.{is_home}
 use Rattle.directory.proofs.Entries.{other_home, own_home}

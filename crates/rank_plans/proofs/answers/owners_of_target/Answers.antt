@@ -1,5 +1,4 @@
-use Rattle.std.proofs.Common.{[], ◌∷◌, ◌++◌, ◌+◌, ◌≡◌, ◌<◌, Option, None, Some, List, ℕ, true, false, cond, drop, get_or, length, sym, ap, ◌∙◌, append_assoc}
-use Rattle.std.specs.Option.{is_some}
+use Rattle.std.proofs.Common.{[], ◌∷◌, ◌++◌, ◌+◌, ◌≡◌, None, Some, true, false, cond, drop, get_or, sym, ap, ◌∙◌, append_assoc}
 use Rattle.std.proofs.lemmas.List.{drop_more, drop_all}
 use Rattle.map_core.specs.Layouts.{stands}
 use Rattle.rank_plans.specs.Answers.{first_owner, rest_owners, target_owners}

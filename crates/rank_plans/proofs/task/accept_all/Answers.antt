@@ -1,4 +1,4 @@
-use Rattle.std.proofs.Common.{◌≡◌, ◌≤◌, ◌+◌, ◌++◌, Some, None, All, List, ℕ, drop, get_or, map, set, slice_set, slice_index_or, take, true, subst, sym, ap, ◌∙◌}
+use Rattle.std.proofs.Common.{◌≡◌, Some, None, All, get_or, slice_index_or, true, subst, sym, ap, ◌∙◌}
 use Rattle.map_core.specs.Layouts.{stands}
 use Rattle.map_core.specs.Classes.{first_lacked}
 use Rattle.import_plan.specs.Imports.{Import, with_want}

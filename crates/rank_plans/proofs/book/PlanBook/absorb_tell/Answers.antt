@@ -1,13 +1,13 @@
-use Rattle.std.proofs.Common.{◌≡◌, ◌<◌, ◌&&◌, ◌==◌, ℕ, [], true, false, All, Some, cond, length, get_or, slice_set, refl, subst, sym, ap, ◌∙◌}
+use Rattle.std.proofs.Common.{◌≡◌, ◌<◌, ◌&&◌, ℕ, true, Some, cond, length, get_or, refl, subst, sym, ap, ◌∙◌}
 use Rattle.std.specs.List.{position_or_len}
 use Rattle.std.specs.Option.{is_some}
 use Rattle.map_core.specs.Layouts.{stands}
 use Rattle.map_core.specs.Homes.{homed, is_home}
 use Rattle.model_defs.specs.Transfers.{same_plan}
 use Rattle.rank_plans.specs.Answers.{answered, filled, known_at}
-use Rattle.rank_plans.specs.Tasks.{Task, asked_by, told_by, owned_of}
-use Rattle.rank_plans.specs.Books.{Book, asked_in, asked_of, has_plan, lacking_in, lacking_of, made_in, made_of, own_of, owners_in, owners_of, size_in, size_of, slices, task_in, told_in, told_of}
-use Rattle.rank_plans.proofs.Changes.{task-at, plan-within, asked-slices, asked-others, told-slices, told-others, owners-slices, owners-others, made-slices, task-put, task-apart, with_task, IsBook-task, IsTaskAt}
+use Rattle.rank_plans.specs.Tasks.{Task}
+use Rattle.rank_plans.specs.Books.{Book, has_plan, lacking_in, lacking_of, owners_in, owners_of, size_in, size_of, slices, task_in}
+use Rattle.rank_plans.proofs.Changes.{task-at, plan-within, owners-slices, owners-others, task-put, with_task, IsBook-task, IsTaskAt}
 use Rattle.rank_plans.proofs.book.PlanBook.absorb_tell.Goals as goal
 
 pub index_mut-requires : goal.index_mut-requires

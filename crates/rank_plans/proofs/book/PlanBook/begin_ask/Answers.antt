@@ -1,13 +1,11 @@
-use Rattle.std.proofs.Common.{◌≡◌, ◌<◌, ◌++◌, ◌∷◌, ◌==◌, ℕ, [], false, None, Some, List, cond, map, get_or, refl, subst, sym, ap, ◌∙◌, arith}
+use Rattle.std.proofs.Common.{◌≡◌, ◌<◌, ◌++◌, ◌∷◌, ◌==◌, [], false, Some, cond, subst, sym, ap, ◌∙◌, arith}
 use Rattle.std.specs.Option.{is_some}
 use Rattle.std.specs.List.{range_with_len}
 use Rattle.std.proofs.lemmas.List.FromFn.{get_or-map-range_with_len}
-use Rattle.map_core.specs.Layouts.{owner, stands}
 use Rattle.map_core.specs.Homes.{homed}
-use Rattle.map_core.specs.Uniform.{uniform_layout}
-use Rattle.rank_plans.specs.Tasks.{Task, asking, ruled}
+use Rattle.rank_plans.specs.Tasks.{Task, asking}
 use Rattle.rank_plans.specs.Books.{Book, IsBook, asked_in, has_plan, lacking_in, made_in, owners_in, size_in, task_in, told_in}
-use Rattle.rank_plans.proofs.Known.{known-map, known-none, nothing-at}
+use Rattle.rank_plans.proofs.Known.{known-none, nothing-at}
 use Rattle.rank_plans.proofs.Changes.{task-begun, task-old, IsBook-begun}
 use Rattle.rank_plans.proofs.book.PlanBook.begin_ask.Goals as goal
 

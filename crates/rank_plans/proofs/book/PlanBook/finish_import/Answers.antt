@@ -1,4 +1,4 @@
-use Rattle.std.proofs.Common.{◌≡◌, ◌<◌, ◌&&◌, ◌==◌, ℕ, [], true, false, All, Some, length, get_or, slice_set, refl, subst, sym, ap, ◌∙◌}
+use Rattle.std.proofs.Common.{◌≡◌, ◌<◌, true, All, Some, length, get_or, refl, subst, sym, ap, ◌∙◌}
 use Rattle.std.specs.List.{position_or_len}
 use Rattle.std.specs.Option.{is_some}
 use Rattle.std.specs.Prelude.{filter}
@@ -7,8 +7,8 @@ use Rattle.map_core.specs.Classes.{owns}
 use Rattle.map_core.specs.Plans.{IsWithin}
 use Rattle.model_defs.specs.Transfers.{same_plan}
 use Rattle.rank_plans.specs.Tasks.{Task, told_by, import_of, owned_of}
-use Rattle.rank_plans.specs.Books.{Book, asked_in, asked_of, has_plan, lacking_in, lacking_of, made_in, made_of, own_of, owners_in, owners_of, size_in, size_of, slices, task_in, told_in, told_of}
-use Rattle.rank_plans.proofs.Changes.{task-at, plan-within, asked-slices, asked-others, told-slices, told-others, owners-slices, made-slices, task-put, task-apart, with_task, IsBook-task, IsTaskAt}
+use Rattle.rank_plans.specs.Books.{Book, has_plan, lacking_in, made_in, made_of, own_of, owners_in, size_in, slices, task_in, told_in, told_of}
+use Rattle.rank_plans.proofs.Changes.{task-at, plan-within, made-slices, task-put, task-apart, with_task, IsBook-task, IsTaskAt}
 use Rattle.rank_plans.proofs.book.PlanBook.finish_import.Goals as goal
 
 pub index_mut-requires : goal.index_mut-requires
