@@ -6,3 +6,4 @@ mod Wants
 mod Imported
 mod Changes
 mod Mapped
+mod Joined

@@ -30,6 +30,7 @@
 mod answers;
 mod book;
 mod indices;
+pub mod laws;
 mod lists;
 mod owners;
 mod places;
