@@ -37,8 +37,6 @@ mod places;
 mod registered;
 mod registering;
 mod task;
-#[cfg(test)]
-mod tests;
 
 pub use book::PlanBook;
 pub use indices::lacked_indices;
