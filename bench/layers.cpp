@@ -1,4 +1,5 @@
-// The layers below a rank in C++: look-ups in a list map, a plan between two maps with its transfer, and an update.
+// The layers below a rank in C++: look-ups in a list map, a plan between two maps with its transfer, a transfer
+// alone, and an update.
 #include "weighed.hpp"
 
 #include <cstdlib>
@@ -138,6 +139,33 @@ static void plan(int rounds) {
     print(sum);
 }
 
+// A letter of all 4,000,000 cells of a vector, the last one first, is laid out, checked and taken apart, so many times.
+static void transfer(int rounds) {
+    const uint32_t count = 4000000;
+    std::vector<Weighed> x, y(count, ZERO);
+    std::vector<uint64_t> gids;
+    std::vector<uint32_t> exports, remotes;
+    for (uint32_t l = 0; l < count; l++) x.push_back(num(l)), gids.push_back(l), exports.push_back(count - 1 - l);
+    remotes = exports;
+    const size_t head = 9 + 8 * size_t(count);
+    std::vector<uint8_t> letter(head + 32 * size_t(count));
+    for (int round = 0; round < rounds; round++) {
+        letter[0] = DATA;
+        put_word(letter, 1, exports.size());
+        for (size_t i = 0; i < exports.size(); i++) put_word(letter, 9 + 8 * i, gids[exports[i]]);
+        for (size_t i = 0; i < exports.size(); i++) memcpy(&letter[head + 32 * i], &x[exports[i]], 32);
+        if (!is_letter(letter, DATA, 1) || word_at(letter, 1) != remotes.size()) exit(1);
+        for (size_t i = 0; i < remotes.size(); i++) {
+            Weighed number;
+            memcpy(&number, &letter[head + 32 * i], 32);
+            y[remotes[i]] = make(number.value, number.weight);
+        }
+    }
+    Weighed sum = ZERO;
+    for (uint32_t l = 0; l < count; l++) sum = add(sum, y[l]);
+    print(sum);
+}
+
 // y = 2 x - y on 4,000,000 cells, so many times. The factors are not known when this is compiled, as in a library.
 static void update(int rounds) {
     const uint32_t count = 4000000;
@@ -157,5 +185,6 @@ int main(int argc, char **argv) {
     int rounds = argc > 2 ? atoi(argv[2]) : 1;
     if (strcmp(word, "lookups") == 0) lookups(rounds);
     else if (strcmp(word, "plan") == 0) plan(rounds);
+    else if (strcmp(word, "transfer") == 0) transfer(rounds);
     else update(rounds);
 }

@@ -32,3 +32,4 @@ measure() {
 }
 measure lookups 4 1000000
 measure update 30 4000000
+measure transfer 20 4000000

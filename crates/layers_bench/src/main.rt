@@ -1,12 +1,14 @@
-//! Times the layers below a rank: `lookups` or `update`, how many rounds, and how many indices. bench/layers.sh runs it beside
-//! the same work in C++.
+//! Times the layers below a rank: `lookups`, `transfer` or `update`, how many rounds, and how many indices. bench/layers.sh
+//! runs it beside the same work in C++.
 #![tactic(auto)]
 
 mod look_ups;
+mod transfers;
 mod updates;
 
 use look_ups::look_up;
 use std::{env, io};
+use transfers::transfer;
 use updates::update;
 
 /// A number of the command line below a limit, or another one where it is missing.
@@ -27,6 +29,11 @@ fn main(rt: HostRuntime) -> io::Result<()> {
         Some("update") => match update(rt.alloc(), rounds, count)? {
             Some((value, weight)) => println!(rt; "{value} {weight}"),
             None => println!(rt; "over"),
+        },
+        Some("transfer") => match transfer(rt.alloc(), rounds, count) {
+            Ok(Some((value, weight))) => println!(rt; "{value} {weight}"),
+            Ok(None) => println!(rt; "over"),
+            Err(fault) => println!(rt; "{fault}"),
         },
         _ => match look_up(rt.alloc(), rounds, count) {
             Ok(sum) => println!(rt; "{sum}"),

@@ -1,16 +1,25 @@
 //! Updates of a vector: y becomes 2 x - y.
+ghost use Rattle.std.specs.Prelude.{◌≡◌, unsigned_abs};
+ghost use Rattle.scalar_laws.specs.Number.{new_number};
+ghost use Rattle.scalar_laws.specs.Weighed.{num_of};
+ghost use Rattle.multivector.specs.Vectors.{HasSameShape};
+
 use map_core::Layout;
 use multivector::MultiVector;
 use scalar_laws::{Scalar, Weighed};
 use std::alloc::{AllocError, Global};
 
 /// The number of a value.
-fn whole(value: i128) -> Weighed {
+fn whole(value: i128) -> Weighed
+    ensures number { num_of result ≡ new_number value (unsigned_abs value) }
+{
     Weighed::new(value, value.unsigned_abs())
 }
 
 /// Gives each cell the number of its place.
-fn fill(x: &mut MultiVector<Weighed>, count: u32) {
+pub(crate) fn fill(x: &mut MultiVector<Weighed>, count: u32)
+    ensures shape { HasSameShape x.old x.new }
+{
     for lid in 0..count {
         if lid < x.map().len() && 0 < x.columns() {
             x.set(lid, 0, whole(lid as i128));
@@ -19,7 +28,7 @@ fn fill(x: &mut MultiVector<Weighed>, count: u32) {
 }
 
 /// The sum of the cells.
-fn sum(y: &MultiVector<Weighed>, count: u32) -> Weighed {
+pub(crate) fn sum(y: &MultiVector<Weighed>, count: u32) -> Weighed {
     let mut sum = Weighed::zero();
     for lid in 0..count {
         if lid < y.map().len() && 0 < y.columns() {

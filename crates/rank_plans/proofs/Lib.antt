@@ -1,0 +1,9 @@
+mod Known
+mod Found
+mod Fresh
+mod Targets
+mod Wants
+mod Imported
+mod Changes
+mod Mapped
+mod Joined

@@ -1,0 +1,4 @@
+pub mod Answers
+pub mod Tasks
+pub mod Books
+pub mod JobPlans

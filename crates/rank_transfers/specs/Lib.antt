@@ -1,0 +1,4 @@
+pub mod Arrivals
+pub mod JobRows
+pub mod JobLetters
+pub mod JobMoves
