@@ -17,8 +17,9 @@ pub use Rattle.rank_core.specs.Results.{IsFinished, is_over_there, result_table}
 abbrev pub IsRank : {S : Type 0} → Semiring S → Conversions S → Rank S → PeerState → Type 0
 IsRank R F rank s = IsPeer (IsJobWorker R F) rank.phased s
 
--- The phase that a rank is in: all letters to it of the phases before were given, and where it is not done, some letter of
--- this phase was not.
-pub record IsPhaseAt (s : PeerState) (phase : ℕ) (is_done : Bool) : Type 0 where
+-- The phase that a rank is in, of so many: all letters to it of the phases before were given; where it is not done, some letter
+-- of this phase was not; and where it is done, this is the number of phases.
+pub record IsPhaseAt (s : PeerState) (phases phase : ℕ) (is_done : Bool) : Type 0 where
   pub before : (n : Name) → stands_in s.protocol.names n ≡ true → n.to ≡ s.me → n.phase < phase → was_given s.given n ≡ true
   pub awaits : is_done ≡ false → list_all (was_given s.given) (names_to s.protocol.names phase s.me) ≡ false
+  pub end : is_done ≡ true → phase ≡ phases

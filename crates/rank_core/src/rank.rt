@@ -75,7 +75,7 @@ impl<S: Scalar + Drop> Rank<S> {
 
     /// The phase that a rank which has worked is in: the first of which it awaits a letter, or the number of phases.
     pub fn phase(&self) -> u32
-        ensures { (s : PeerState) → IsRank S.semiring S.conversions self.now s → s.has_worked ≡ true → IsPhaseAt s result (is_past self.now.phased) }
+        ensures { (s : PeerState) → IsRank S.semiring S.conversions self.now s → s.has_worked ≡ true → IsPhaseAt s self.now.phased.phases result (is_past self.now.phased) }
     {
         self.phased.phase()
     }
