@@ -69,6 +69,17 @@ pub fn shown_rows<S: Scalar>(
     Ok(shown)
 }
 
+/// No cells yet, with room for one for each cell of the ranks. `Err` means that memory ran out.
+fn room_for<S: Scalar>(alloc: Global, pieces: &[Vec<Cell<S>>]) -> Result<Vec<Shown>, AllocError>
+    ensures empty { IfOk result (λ shown. shown.items ≡ []) }
+{
+    let mut count = 0usize;
+    for piece in pieces {
+        count = count.saturating_add(piece.len());
+    }
+    Vec::with_capacity(alloc, count)
+}
+
 /// What is shown of the cells of all ranks, one rank after the other. `Err` means that memory ran out.
 fn shown_in_turn<S: Scalar>(
     alloc: Global,
@@ -78,7 +89,7 @@ fn shown_in_turn<S: Scalar>(
 ) -> Result<Vec<Shown>, AllocError>
     ensures shown { IfOk result (λ shown. shown.items ≡ shown_within S.conversions false rows cols (cells_in pieces.now)) }
 {
-    let mut shown = Vec::new(alloc);
+    let mut shown = room_for(alloc, pieces)?;
     for piece in pieces {
         add_shown(&mut shown, false, rows, cols, piece)?;
     }

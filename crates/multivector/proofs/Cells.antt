@@ -124,6 +124,21 @@ module _ {S : Type 0} (f : S × S → S) where
       ∙ done-set i xs ys x y e l p (q ∙ ap (λ w. get_or w i y) h ∙ done-read i xs ys e l y)
       ∙ (let one : suc i ≡ i + 1 = omega arith in ap (λ n. done n xs ys) one)
 
+  -- one more sum at the end
+  zipped-next : (i : ℕ) (xs ys : List S) (x y : S) → i < length xs → i < length ys → x ≡ get_or xs i x → y ≡ get_or ys i y
+      → map f (zip (take i xs) (take i ys)) ++ f (x, y) ∷ [] ≡ map f (zip (take (suc i) xs) (take (suc i) ys))
+  zipped-next i [] ys x y e l p q = absurd (omega arith)
+  zipped-next i (a ∷ xs) [] x y e l p q = absurd (omega arith)
+  zipped-next zero (a ∷ xs) (b ∷ ys) x y e l p q = λ t. f (p t, q t) ∷ []
+  zipped-next (suc i) (a ∷ xs) (b ∷ ys) x y e l p q = ap (λ z. f (a, b) ∷ z) (zipped-next i xs ys x y (omega arith) (omega arith) p q)
+
+  pub zipped-more : (i : ℕ) (xs ys : List S) (x y z : S) → length xs ≡ length ys → i < length ys → x ≡ get_or xs i x → y ≡ get_or ys i y → z ≡ f (x, y)
+      → map f (zip (take i xs) (take i ys)) ++ z ∷ [] ≡ map f (zip (take (i + 1) xs) (take (i + 1) ys))
+  zipped-more i xs ys x y z e l p q r =
+      (λ t. map f (zip (take i xs) (take i ys)) ++ r t ∷ [])
+      ∙ zipped-next i xs ys x y (omega (arith, e)) l p q
+      ∙ (let one : suc i ≡ i + 1 = omega arith in ap (λ n. map f (zip (take n xs) (take n ys))) one)
+
   pub done-all : (i : ℕ) (xs ys now : List S) → length xs ≡ length ys → length ys ≤ i → now ≡ done i xs ys → now ≡ map f (zip xs ys)
   done-all i xs ys now e l h = h ∙ whole i xs ys e l
     where
@@ -200,6 +215,21 @@ module _ {S : Type 0} (R : Semiring S) where
       ap (λ z. vector_table (record v { values = z })) h
       ∙ update-table R alpha beta v w maps columns sizes
       ∙ (λ t. combination R alpha (vector_table (f t)) beta (vector_table (e t)))
+
+  -- the sum as a vector of its own, on a copy of the map
+  pub sum-vector : (alpha beta : S) (v now w other : VectorState S) (copy : List ℕ) (values : List S) → v ≡ now → w ≡ other → IsVector v → IsVector w → other.map ≡ now.map → other.columns ≡ now.columns
+      → copy ≡ v.map → values ≡ combined_values R alpha w.values beta v.values → IsVector (record { map = copy; columns = v.columns; values = values })
+  sum-vector alpha beta v now w other copy values e f is js m c same h =
+      let maps : w.map ≡ v.map = ap (λ (n : VectorState S). n.map) f ∙ m ∙ sym (ap (λ (n : VectorState S). n.map) e) in
+      let columns : w.columns ≡ v.columns = ap (λ (n : VectorState S). n.columns) f ∙ c ∙ sym (ap (λ (n : VectorState S). n.columns) e) in
+      let sizes : length w.values ≡ length v.values = js ∙ (λ t. length (maps t) * columns t) ∙ sym is in
+      ap length h ∙ length-combined (λ pair. R.plus (R.times alpha pair.0) (R.times beta pair.1)) w.values v.values sizes ∙ is ∙ (λ t. length (sym same t) * v.columns)
+
+  pub sum-clause : (alpha beta : S) (v now w other : VectorState S) (copy : List ℕ) (values : List S) → v ≡ now → w ≡ other → IsVector v → IsVector w → other.map ≡ now.map → other.columns ≡ now.columns
+      → copy ≡ v.map → values ≡ combined_values R alpha w.values beta v.values
+      → vector_table (record { map = copy; columns = v.columns; values = values }) ≡ combination R alpha (vector_table other) beta (vector_table now)
+  sum-clause alpha beta v now w other copy values e f is js m c same h =
+      (λ t. vector_table (record { map = same t; columns = v.columns; values = values })) ∙ update-clause alpha beta v now w other values e f is js m c h
 
   -- its rows as entries
   pub known-row : (now : VectorState S) (lid : ℕ) → lid < length (vector_entries now) → lid < length now.map

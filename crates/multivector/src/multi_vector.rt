@@ -111,6 +111,29 @@ impl<S: Scalar> MultiVector<S> {
         combine_values(&mut self.values, alpha, &v.values, beta);
     }
 
+    /// The vector of `alpha` times each cell of `x` plus `beta` times that of `y`. The two have equal maps and as many columns; it is
+    /// on the map of `y`. Both stay as they are. `Err` means that memory ran out.
+    pub fn combined(
+        alpha: S,
+        x: &MultiVector<S>,
+        beta: S,
+        y: &MultiVector<S>,
+    ) -> Result<MultiVector<S>, AllocError>
+        requires map { x.now.map ≡ y.now.map }
+        requires columns { x.now.columns ≡ y.now.columns }
+        ensures map { IfOk result (λ v. v.map ≡ y.now.map) }
+        ensures columns { IfOk result (λ v. v.columns ≡ y.now.columns) }
+        ensures cells { IfOk result (λ v. vector_table v ≡ combination S.semiring alpha (vector_table x.now) beta (vector_table y.now)) }
+    {
+        let values = sums_of(y.alloc, alpha, &x.values, beta, &y.values)?;
+        Ok(MultiVector {
+            alloc: y.alloc,
+            map: y.map.clone()?,
+            columns: y.columns,
+            values,
+        })
+    }
+
     /// The same vector once more: it has cells of its own, and shares the map. `Err` means that memory ran out.
     pub fn copy(&self) -> Result<MultiVector<S>, AllocError>
         ensures same { IfOk result (λ v. v ≡ self.now) }
@@ -182,4 +205,23 @@ fn combine_values<S: Scalar>(values: &mut [S], alpha: S, others: &[S], beta: S)
         let own = beta.mul(values[i]);
         values[i] = alpha.mul(others[i]).add(own);
     }
+}
+
+/// `alpha` times each number of `xs` plus `beta` times that of `ys`. `Err` means that memory ran out.
+fn sums_of<S: Scalar>(
+    alloc: Global,
+    alpha: S,
+    xs: &[S],
+    beta: S,
+    ys: &[S],
+) -> Result<Vec<S>, AllocError>
+    requires alike { length xs.now ≡ length ys.now }
+    ensures values { IfOk result (λ values. values.items ≡ combined_values S.semiring alpha xs.now beta ys.now) }
+{
+    let mut values = Vec::with_capacity(alloc, ys.len())?;
+    for i in 0..ys.len() {
+        let own = beta.mul(ys[i]);
+        values.push(alpha.mul(xs[i]).add(own))?;
+    }
+    Ok(values)
 }

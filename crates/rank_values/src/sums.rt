@@ -21,8 +21,7 @@ pub fn sum_of_vectors<S: Scalar>(
     ensures columns { IfOk result (λ v. v.columns ≡ y.now.columns) }
     ensures cells { IfOk result (λ v. global_table v ≡ combination S.semiring alpha (global_table x.now) beta (global_table y.now)) }
 {
-    let mut sum = y.copy()?;
-    sum.update(alpha, x, beta);
+    let sum = MultiVector::combined(alpha, x, beta, y)?;
     Ok(sum)
 }
 

@@ -1,13 +1,8 @@
-use Rattle.std.proofs.Common.{◌≡◌, sym, ap, ◌∙◌, subst, [], ◌∷◌, ◌++◌}
-use Rattle.gathered_rows.specs.Blocks.{AreAscending}
-use Rattle.rank_values.proofs.Blocks.{alone, sums-found}
+use Rattle.std.proofs.Common.{subst, refl}
+use Rattle.tables.specs.Tables.{AreInOrder}
+use Rattle.rank_values.proofs.InOrder.{found-summed}
 use Rattle.rank_values.proofs.cells.in_order.Goals as goal
 
-pub sums_of-requires : goal.sums_of-requires
-sums_of-requires g c =
-    subst AreAscending (sym (c.in_ok-push.ensures.items ∙ ap (λ xs. xs ++ c.args.cells ∷ []) c.new-blocks.ensures.items)) (alone c.args.cells)
-
-pub returns-clause-cells : goal.returns-clause-cells
-returns-clause-cells g c =
-    sums-found g.S.Scalar.semiring c.push.new.self.items c.args.cells c.sums_of.result
-    (c.in_ok-push.ensures.items ∙ ap (λ xs. xs ++ c.args.cells ∷ []) c.new-blocks.ensures.items) c.sums_of.ensures
+pub returns-then-are_in_order-clause-cells : goal.returns-then-are_in_order-clause-cells
+returns-then-are_in_order-clause-cells g c =
+    found-summed g.S.Scalar.semiring c.args.cells.items (subst AreInOrder c.deref.ensures.value (c.if-are_in_order.ensures.in_order refl))
