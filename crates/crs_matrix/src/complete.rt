@@ -7,28 +7,29 @@ ghost use Rattle.crs_graph.specs.Ascending.{IsAscending};
 ghost use Rattle.crs_graph.specs.Graphs.{graph_row, IsGraph};
 ghost use Rattle.crs_graph.specs.Packed.{joined};
 ghost use Rattle.crs_matrix.specs.Completed.{row_numbers, stored_rows, AreKnown};
-ghost use Rattle.crs_matrix.specs.Stored.{cells_at, columns_at, places_of, AreWithin};
+ghost use Rattle.crs_matrix.specs.Stored.{cells_at, columns_at, AreWithin};
 
+use crate::packed_places::PackedPlaces;
 use crate::places::{Place, number_of, push_columns};
 use crs_graph::{CrsGraph, PackedRows};
 use map_core::LocalMap;
 use scalar_laws::Scalar;
-use smallvec::SmallVec;
 use std::alloc::{AllocError, Global};
 
 /// The columns of the rows, of which there are `count`. `Err` means that memory ran out.
 pub(crate) fn packed_columns(
     alloc: Global,
     count: u32,
-    rows: &[SmallVec<Place, 8>],
+    rows: &PackedPlaces,
 ) -> Result<PackedRows, AllocError>
-    ensures rows { IfOk result (λ packed. packed ≡ map columns_at (places_of rows.now)) }
+    requires each { length rows.now ≡ count }
+    ensures rows { IfOk result (λ packed. packed ≡ map columns_at rows.now) }
 {
     let mut packed = PackedRows::with_capacity(alloc, count)?;
     let mut scratch = Vec::new(alloc);
-    for row in rows {
+    for lid in 0..count {
         scratch.clear();
-        push_columns(&mut scratch, row.as_slice())?;
+        push_columns(&mut scratch, rows.row_at(lid))?;
         packed.push_row(&scratch)?;
     }
     Ok(packed)
@@ -38,14 +39,14 @@ pub(crate) fn packed_columns(
 pub(crate) fn stored_numbers<S: Scalar>(
     alloc: Global,
     graph: &CrsGraph,
-    places: &[SmallVec<Place, 8>],
+    places: &PackedPlaces,
     values: &[S],
 ) -> Result<Vec<S>, AllocError>
     requires each { length places.now ≡ length graph.now.rows }
-    requires ascend { (l : ℕ) → IsAscending (columns_at (slice_index_or (places_of places.now) l [])) }
-    requires within { (l : ℕ) → AreWithin (length values.now) (slice_index_or (places_of places.now) l []) }
-    requires known { (l c : ℕ) → c < length graph.now.cols → stands c (graph_row graph.now l) ≡ stands (index_at graph.now.cols c) (columns_at (slice_index_or (places_of places.now) l [])) }
-    ensures numbers { IfOk result (λ stored. map Some stored.items ≡ joined (stored_rows graph.now.cols graph.now.columns (map (cells_at values.now) (places_of places.now)))) }
+    requires ascend { (l : ℕ) → IsAscending (columns_at (slice_index_or places.now l [])) }
+    requires within { (l : ℕ) → AreWithin (length values.now) (slice_index_or places.now l []) }
+    requires known { (l c : ℕ) → c < length graph.now.cols → stands c (graph_row graph.now l) ≡ stands (index_at graph.now.cols c) (columns_at (slice_index_or places.now l [])) }
+    ensures numbers { IfOk result (λ stored. map Some stored.items ≡ joined (stored_rows graph.now.cols graph.now.columns (map (cells_at values.now) places.now))) }
     ensures is_graph { IsGraph graph.now }
 {
     let rows = graph.row_map().len();
@@ -55,7 +56,7 @@ pub(crate) fn stored_numbers<S: Scalar>(
             &mut stored,
             graph.row(lid),
             graph.col_map(),
-            places[lid as usize].as_slice(),
+            places.row_at(lid),
             values,
         )?;
     }

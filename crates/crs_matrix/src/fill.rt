@@ -13,6 +13,7 @@ ghost use Rattle.crs_matrix.specs.Stored.{columns_at, places_of};
 
 use crate::CrsMatrix;
 use crate::complete::{packed_columns, stored_numbers};
+use crate::packed_places::packed_places;
 use crate::places::{Place, changed, find_place, make_place, number_of, push_columns};
 use combine_modes::{Mode, place};
 use crs_graph::{CrsGraph, FillFault};
@@ -95,7 +96,7 @@ impl<S: Scalar> MatrixFill<S> {
         ensures columns { IfOk result (λ columns. columns.items ≡ all_columns self.now) }
     {
         let mut columns = joined_columns(self.alloc, &self.places)?;
-        columns.sort()?;
+        columns.sort_unstable();
         columns.dedup();
         Ok(columns)
     }
@@ -113,9 +114,11 @@ impl<S: Scalar> MatrixFill<S> {
         ensures graph { IfOk result (λ matrix. IsCompleted self.rows (map columns_in self.cells) domain.now owners.now matrix.graph) }
         ensures table { IfOk result (λ matrix. crs_table matrix ≡ row_table self) }
     {
-        let packed = packed_columns(self.alloc, self.rows.len(), &self.places)?;
+        let count = self.rows.len();
+        let places = packed_places(self.alloc, count, self.places, self.values.len())?;
+        let packed = packed_columns(self.alloc, count, &places)?;
         let graph = CrsGraph::from_rows(self.alloc, self.rows, packed, domain, owners)?;
-        let values = stored_numbers(self.alloc, &graph, &self.places, &self.values)?;
+        let values = stored_numbers(self.alloc, &graph, &places, &self.values)?;
         Ok(CrsMatrix::on_graph(self.alloc, graph, values))
     }
 

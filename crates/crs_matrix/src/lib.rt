@@ -25,6 +25,7 @@
 mod complete;
 mod fill;
 mod matrix;
+mod packed_places;
 mod places;
 mod row_fault;
 #[cfg(test)]

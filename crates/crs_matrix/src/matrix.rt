@@ -106,11 +106,13 @@ impl<S: Scalar> CrsMatrix<S> {
         ensures refused { IfErr result (IsRowFault self.old.graph row col) }
         ensures unchanged { OnErr result (self.new ≡ self.old) }
     {
-        let Some(at) = self.graph.locate(row, col) else {
-            return Err(RowFault::NoSuchPlace { row, col });
-        };
-        self.values[at] = self.values[at].add(value);
-        Ok(())
+        match self.graph.locate(row, col) {
+            Some(at) => {
+                self.values[at] = self.values[at].add(value);
+                Ok(())
+            }
+            None => Err(RowFault::NoSuchPlace { row, col }),
+        }
     }
 
     /// Gives a row and a column another number (`Tpetra::CrsMatrix::replaceGlobalValues`). All other numbers stay.
@@ -182,7 +184,7 @@ impl<S: Scalar> DistSource<S> for CrsMatrix<S> {
 
 /// The part of a list between two places.
 #[inline]
-fn part<S>(list: &[S], start: usize, end: usize) -> &[S]
+pub(crate) fn part<S>(list: &[S], start: usize, end: usize) -> &[S]
     requires ordered { start ≤ end }
     requires within { end ≤ length list.now }
     ensures part { result.now ≡ slice_range list.now start end }

@@ -95,7 +95,7 @@ pub fn built<S: Scalar>(
 }
 
 /// The same, once the cells are inserted.
-fn completed<S: Scalar>(
+pub fn completed<S: Scalar>(
     alloc: Global,
     domain: &LocalMap,
     fill: MatrixFill<S>,

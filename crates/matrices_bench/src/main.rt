@@ -10,7 +10,7 @@ mod given;
 use crs_graph::{CrsGraph, FillFault, GraphFill};
 use crs_matrix::{CrsMatrix, MatrixFill, RowFault};
 use distributor::DistSource;
-use given::{built, row_map, scattered, structured, tridiagonal, whole};
+use given::{built, completed, row_map, scattered, structured, tridiagonal, whole};
 use map_core::LocalMap;
 use matrix_twins::filled;
 use multivector::MultiVector;
@@ -131,21 +131,41 @@ fn zeros(alloc: Global, map: &Rc<LocalMap>) -> Result<MultiVector<Weighed>, Allo
     MultiVector::new(alloc, map.clone()?, 1, Weighed::zero())
 }
 
-/// Builds the matrix of cells so many times.
+/// The matrix of cells, which are let go when all of them are inserted.
+fn last_built(
+    alloc: Global,
+    rows: &Rc<LocalMap>,
+    cells: Vec<Cell<Weighed>>,
+) -> Result<CrsMatrix<Weighed>, FillFault> {
+    let fill = last_filled(alloc, rows, cells)?;
+    let a = completed(alloc, rows, fill)?;
+    Ok(a)
+}
+
+/// The matrix under construction of cells, which are let go.
+fn last_filled(
+    alloc: Global,
+    rows: &Rc<LocalMap>,
+    cells: Vec<Cell<Weighed>>,
+) -> Result<MatrixFill<Weighed>, FillFault> {
+    filled(alloc, rows.clone()?, &cells)
+}
+
+/// Builds the matrix of cells so many times. The last round lets them go before it lays the rows out.
 fn fill(
     alloc: Global,
     rows: &Rc<LocalMap>,
-    cells: &[Cell<Weighed>],
+    cells: Vec<Cell<Weighed>>,
     rounds: u32,
 ) -> Result<Weighed, FillFault> {
-    let mut total = Weighed::zero();
-    for round in 0..rounds {
-        let a = built(alloc, rows, cells)?;
-        if round + 1 == rounds {
-            total = total_of_rows(&a);
-        }
+    if rounds == 0 {
+        return Ok(Weighed::zero());
     }
-    Ok(total)
+    for _ in 1..rounds {
+        let _ = built(alloc, rows, &cells)?;
+    }
+    let a = last_built(alloc, rows, cells)?;
+    Ok(total_of_rows(&a))
 }
 
 /// Inserts the places of cells.
@@ -375,7 +395,7 @@ fn measured(
         "transposed" => transposed(alloc, &map, &cells, rounds),
         "transpose" => transpose(alloc, &map, &cells, rounds),
         "sum" => sum(alloc, &map, &cells, rounds),
-        _ => fill(alloc, &map, &cells, rounds),
+        _ => fill(alloc, &map, cells, rounds),
     }
 }
 

@@ -1,14 +1,16 @@
-use Rattle.std.proofs.Common.{◌++◌, ◌∷◌, [], take, get_or, map, sym, ap, ◌∙◌}
-use Rattle.std.proofs.lemmas.List.{map-append, map_more}
-use Rattle.crs_matrix.specs.Stored.{columns_at, places_of}
+use Rattle.std.proofs.Common.{◌++◌, ◌∷◌, [], ◌<◌, length, map, sym, ap, ◌∙◌, arith}
+use Rattle.std.proofs.lemmas.List.{map_more, take_all}
+use Rattle.crs_matrix.specs.Stored.{columns_at}
 use Rattle.crs_matrix.proofs.complete.packed_columns.Goals as goal
 
-pub loop-row-preserved : goal.loop-row-preserved
-loop-row-preserved c =
+pub loop-lid-preserved : goal.loop-lid-preserved
+loop-lid-preserved c =
     let rows = c.args.rows.now in
-    let at = c.loop-row.row-index in
-    let row = c.row-item.result in
-    let columns = c.deref.ensures.value ∙ c.in_ok-push_columns.ensures.pushed ∙ (λ t. c.clear.ensures.items t ++ columns_at ((c.as_slice.ensures ∙ ap (λ v. v.items) c.row-item.is) t)) in
+    let low : c.loop-lid.lid < length rows = let a = c.loop-lid-test.true in let b = c.requires.each in omega arith in
+    let columns = c.deref.ensures.value ∙ c.in_ok-push_columns.ensures.pushed ∙ (λ t. c.clear.ensures.items t ++ columns_at (c.row_at.ensures.row t)) in
     c.in_ok-push_row.ensures.row
-    ∙ (λ t. c.loop-row.invariant t ++ columns t ∷ [])
-    ∙ sym (ap (map columns_at) (map_more (λ v. v.items) rows at row c.loop-row-test.true) ∙ map-append columns_at (places_of (take at rows)) ((get_or rows at row).items ∷ []))
+    ∙ (λ t. c.loop-lid.invariant t ++ columns t ∷ [])
+    ∙ sym (map_more columns_at rows c.loop-lid.lid [] low)
+
+pub returns : goal.returns
+returns c = record { rows = c.loop-lid.invariant ∙ ap (map columns_at) (take_all c.loop-lid.lid c.args.rows.now (let a = c.loop-lid-test.false in let b = c.requires.each in omega arith)) }

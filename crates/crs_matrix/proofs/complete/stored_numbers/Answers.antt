@@ -10,28 +10,24 @@ use Rattle.crs_graph.proofs.Ascending.{stands-at}
 use Rattle.crs_graph.proofs.LocalColumns.{below-stands}
 use Rattle.crs_graph.proofs.Packed.{joined-push}
 use Rattle.crs_matrix.specs.Completed.{row_numbers, stored_rows}
-use Rattle.crs_matrix.specs.Stored.{cells_at, columns_at, places_of, AreWithin}
+use Rattle.crs_matrix.specs.Stored.{cells_at, columns_at, AreWithin}
 use Rattle.crs_matrix.proofs.CompletedRows.{length-stored, stored-at}
-use Rattle.crs_matrix.proofs.Kept.{row-at}
 use Rattle.crs_matrix.proofs.Numbers.{kept-row}
 use Rattle.crs_matrix.proofs.complete.stored_numbers.Goals as goal
 
 pub push_numbers-requires-clause-ascend : goal.push_numbers-requires-clause-ascend
 push_numbers-requires-clause-ascend g c =
-    let low : c.loop-lid.lid < length c.args.places.now = let a = c.loop-lid-test.true in let b = c.len-rows.ensures.len in let d = ap length (c.deref.ensures ∙ c.row_map.ensures.rows) in let e = c.requires.each in omega arith in
-    let row_is = row-at c.args.places.now c.loop-lid.lid c.index-places-lid.result low ∙ ap (λ v. v.items) (sym c.index-places-lid.is) ∙ sym c.as_slice.ensures in
+    let row_is = sym c.row_at.ensures.row in
     subst (λ ps. IsAscending (columns_at ps)) row_is (c.requires.ascend c.loop-lid.lid)
 
 pub push_numbers-requires-clause-within : goal.push_numbers-requires-clause-within
 push_numbers-requires-clause-within g c =
-    let low : c.loop-lid.lid < length c.args.places.now = let a = c.loop-lid-test.true in let b = c.len-rows.ensures.len in let d = ap length (c.deref.ensures ∙ c.row_map.ensures.rows) in let e = c.requires.each in omega arith in
-    let row_is = row-at c.args.places.now c.loop-lid.lid c.index-places-lid.result low ∙ ap (λ v. v.items) (sym c.index-places-lid.is) ∙ sym c.as_slice.ensures in
+    let row_is = sym c.row_at.ensures.row in
     subst (λ ps. AreWithin (length c.args.values.now) ps) row_is (c.requires.within c.loop-lid.lid)
 
 pub push_numbers-requires-clause-known : goal.push_numbers-requires-clause-known
 push_numbers-requires-clause-known g c =
-    let low : c.loop-lid.lid < length c.args.places.now = let a = c.loop-lid-test.true in let b = c.len-rows.ensures.len in let d = ap length (c.deref.ensures ∙ c.row_map.ensures.rows) in let e = c.requires.each in omega arith in
-    let row_is = row-at c.args.places.now c.loop-lid.lid c.index-places-lid.result low ∙ ap (λ v. v.items) (sym c.index-places-lid.is) ∙ sym c.as_slice.ensures in
+    let row_is = sym c.row_at.ensures.row in
     let row = c.row.result.now in
     let cols_are = c.deref-in-loop-lid.ensures ∙ c.col_map.ensures.cols in
     let below = subst (AreBelow (length c.args.graph.now.cols)) (sym c.row.ensures.columns) (c.row.ensures.is_graph.within c.loop-lid.lid) in
@@ -46,16 +42,15 @@ push_numbers-requires-clause-known g c =
 pub loop-lid-preserved : goal.loop-lid-preserved
 loop-lid-preserved g c =
     let low : c.loop-lid.lid < length c.args.places.now = let a = c.loop-lid-test.true in let b = c.len-rows.ensures.len in let d = ap length (c.deref.ensures ∙ c.row_map.ensures.rows) in let e = c.requires.each in omega arith in
-    let row_is = row-at c.args.places.now c.loop-lid.lid c.index-places-lid.result low ∙ ap (λ v. v.items) (sym c.index-places-lid.is) ∙ sym c.as_slice.ensures in
+    let row_is = sym c.row_at.ensures.row in
     let cols_are = c.deref-in-loop-lid.ensures ∙ c.col_map.ensures.cols in
     let h = c.args.graph.now in
     let lid = c.loop-lid.lid in
     let values = c.args.values.now in
-    let ps = places_of c.args.places.now in
+    let ps = c.args.places.now in
     let cells = map (cells_at values) ps in
     let rows = stored_rows h.cols h.columns cells in
     let one = length-map ps (cells_at values) in
-    let two = length-map c.args.places.now (λ v. v.items) in
     let each = c.requires.each in
     let many = c.row_map.ensures.is_graph.rows in
     let same : length cells ≡ length h.columns = omega arith in
@@ -69,11 +64,10 @@ pub returns-clause-numbers : goal.returns-clause-numbers
 returns-clause-numbers g c =
     let h = c.args.graph.now in
     let values = c.args.values.now in
-    let ps = places_of c.args.places.now in
+    let ps = c.args.places.now in
     let cells = map (cells_at values) ps in
     let rows = stored_rows h.cols h.columns cells in
     let one = length-map ps (cells_at values) in
-    let two = length-map c.args.places.now (λ v. v.items) in
     let each = c.requires.each in
     let many = c.row_map.ensures.is_graph.rows in
     let same : length cells ≡ length h.columns = omega arith in

@@ -12,7 +12,7 @@ pub returns : goal.returns
 returns g c =
     let places = places_of c.self.inside.places.items in
     record {
-      columns = sorted_once c.in_ok-columns.columns.items c.sort.new.self.items c.dedup.new.self.items c.in_ok-sort.ensures.permutation c.in_ok-sort.ensures.sorted c.dedup.ensures.filtered
+      columns = sorted_once c.in_ok-columns.columns.items c.sort_unstable.new.self.items c.dedup.new.self.items c.sort_unstable.ensures.permutation c.sort_unstable.ensures.sorted c.dedup.ensures.filtered
           ∙ ap ascending (c.in_ok-columns.ensures.all ∙ ap (λ vs. concat (map columns_at (places_of vs))) c.deref.ensures.value
           ∙ ap concat (sym (columns-kept c.self.inside.values.items places (row-values c.self.inside.rows.value places (length c.self.inside.values.items) c.self.invariant))))
           ∙ ap all_columns c.self.view_is;

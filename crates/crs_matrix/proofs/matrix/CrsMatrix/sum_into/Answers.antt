@@ -8,8 +8,8 @@ use Rattle.crs_matrix.specs.Matrices.{crs_table}
 use Rattle.crs_matrix.proofs.CrsTables.{crs_of, table-at, table-set}
 use Rattle.crs_matrix.proofs.matrix.CrsMatrix.sum_into.Goals as goal
 
-pub returns-clause-number : goal.returns-clause-number
-returns-clause-number g c =
+pub returns-in-Some-clause-number : goal.returns-in-Some-clause-number
+returns-in-Some-clause-number g c =
     let h = c.self.inside.graph.value in
     let values = c.self.inside.values.items in
     let row = c.args.row in
