@@ -1,5 +1,5 @@
-// The layers below a rank in C++: look-ups in a list map, a plan between two maps with its transfer, a transfer
-// alone, and an update.
+// The layers below a rank in C++: look-ups in a list map, the plans of all ranks between two maps, a transfer, and an
+// update.
 #include "weighed.hpp"
 
 #include <cstdlib>
@@ -59,9 +59,8 @@ struct Uniform {
 
 static uint64_t cyclic(uint32_t p, uint32_t l) { return uint64_t(l) * RANKS + p; }
 
-// Plans from the uniform to the cyclic map, by letters that say what is wanted, and so many transfers of a vector.
-static void plan(int rounds) {
-    const uint64_t size = 4000000;
+// The plans of all ranks from the uniform to the cyclic map of a size, by letters that say what is wanted.
+static std::vector<Plan> plans_of(uint64_t size) {
     Uniform source = {size / RANKS};
     uint32_t each = uint32_t(source.each);
     std::vector<Plan> plans(RANKS);
@@ -102,41 +101,25 @@ static void plan(int rounds) {
                 plans[p].exports[q].push_back(source.local(g));
             }
         }
-    std::vector<std::vector<Weighed>> x(RANKS), y(RANKS);
-    for (uint32_t p = 0; p < RANKS; p++) {
-        for (uint32_t l = 0; l < each; l++) x[p].push_back(num(int64_t(source.global(p, l) + 1)));
-        y[p].assign(each, ZERO);
-    }
-    std::vector<uint8_t> letter;
+    return plans;
+}
+
+static uint64_t sum_of(const std::vector<uint32_t> &positions) {
+    uint64_t sum = 0;
+    for (uint32_t position : positions) sum += position;
+    return sum;
+}
+
+// The plans of 4,000,000 indices, made so many times. The size is not known when this is compiled, as in a library.
+static void plan(int rounds) {
+    volatile uint64_t size = 4000000;
+    uint64_t all = 0;
     for (int round = 0; round < rounds; round++)
-        for (uint32_t p = 0; p < RANKS; p++) {
-            const Plan &mine = plans[p];
-            for (uint32_t l = 0; l < mine.same; l++) y[p][l] = x[p][l];
-            for (size_t i = 0; i < mine.permute_to.size(); i++) y[p][mine.permute_to[i]] = x[p][mine.permute_from[i]];
-            for (uint32_t q = 0; q < RANKS; q++) {
-                const std::vector<uint32_t> &exports = mine.exports[q];
-                if (exports.empty()) continue;
-                size_t head = 9 + 8 * exports.size();
-                letter.resize(head + 32 * exports.size());
-                letter[0] = DATA;
-                put_word(letter, 1, exports.size());
-                for (size_t i = 0; i < exports.size(); i++) {
-                    put_word(letter, 9 + 8 * i, source.global(p, exports[i]));
-                    memcpy(&letter[head + 32 * i], &x[p][exports[i]], 32);
-                }
-                const std::vector<uint32_t> &remotes = plans[q].remotes[p];
-                if (!is_letter(letter, DATA, 1) || word_at(letter, 1) != remotes.size()) exit(1);
-                for (size_t i = 0; i < remotes.size(); i++) {
-                    Weighed number;
-                    memcpy(&number, &letter[head + 32 * i], 32);
-                    y[q][remotes[i]] = make(number.value, number.weight);
-                }
-            }
+        for (const Plan &mine : plans_of(size)) {
+            all += mine.same + sum_of(mine.permute_to) + sum_of(mine.permute_from);
+            for (uint32_t q = 0; q < RANKS; q++) all += sum_of(mine.exports[q]) + sum_of(mine.remotes[q]);
         }
-    Weighed sum = ZERO;
-    for (uint32_t p = 0; p < RANKS; p++)
-        for (uint32_t l = 0; l < each; l++) sum = add(sum, mul(num(l % 7), y[p][l]));
-    print(sum);
+    printf("%llu\n", (unsigned long long)all);
 }
 
 // A letter of all 4,000,000 cells of a vector, the last one first, is laid out, checked and taken apart, so many times.

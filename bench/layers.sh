@@ -13,7 +13,7 @@ proved=crates/layers_bench/out/layers_bench
 # The least processor time of 7 runs of a program with its words, in microseconds.
 least() {
     for _ in 1 2 3 4 5 6 7; do
-        sh -c '"$@" >/dev/null; times' sh "$@" | awk 'END { split($1, t, "m"); printf "%.0f\n", 1000000 * (60 * t[1] + t[2]) }'
+        sh -c '"$@" >/dev/null; times' sh "$@" | awk 'END { split($1, t, "m"); split($2, s, "m"); printf "%.0f\n", 1000000 * (60 * t[1] + t[2] + 60 * s[1] + s[2]) }'
     done | sort -n | head -n 1
 }
 
@@ -31,5 +31,6 @@ measure() {
     awk -v word="$1" -v n="$2" -v a=$((a - a0)) -v b=$((b - b0)) 'BEGIN { printf "| %s | %.1f ms | %.1f ms | %.2f |\n", word, a / n / 1000, b / n / 1000, a / b }'
 }
 measure lookups 4 1000000
+measure plan 10 4000000
 measure update 30 4000000
 measure transfer 20 4000000

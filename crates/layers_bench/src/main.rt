@@ -1,12 +1,14 @@
-//! Times the layers below a rank: `lookups`, `transfer` or `update`, how many rounds, and how many indices. bench/layers.sh
+//! Times the layers below a rank: `lookups`, `plan`, `transfer` or `update`, how many rounds, and how many indices. bench/layers.sh
 //! runs it beside the same work in C++.
 #![tactic(auto)]
 
 mod look_ups;
+mod plans;
 mod transfers;
 mod updates;
 
 use look_ups::look_up;
+use plans::plan;
 use std::{env, io};
 use transfers::transfer;
 use updates::update;
@@ -29,6 +31,10 @@ fn main(rt: HostRuntime) -> io::Result<()> {
         Some("update") => match update(rt.alloc(), rounds, count)? {
             Some((value, weight)) => println!(rt; "{value} {weight}"),
             None => println!(rt; "over"),
+        },
+        Some("plan") => match plan(rt.alloc(), rounds, count) {
+            Ok(sum) => println!(rt; "{sum}"),
+            Err(fault) => println!(rt; "{fault}"),
         },
         Some("transfer") => match transfer(rt.alloc(), rounds, count) {
             Ok(Some((value, weight))) => println!(rt; "{value} {weight}"),
