@@ -26,3 +26,4 @@ mod walk;
 pub use all_phases::phases;
 pub use by_value::transfers;
 pub use lines::phase_lines;
+pub use maker::{MadeBy, maker_at};

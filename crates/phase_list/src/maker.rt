@@ -9,7 +9,7 @@ use model_defs::{Job, MatrixSpec, PartsSpec, Step, VectorSpec};
 
 /// What makes a value: it is given, or a statement makes it. Nothing makes a value that is not there.
 #[derive(Clone, Copy)]
-pub(crate) enum MadeBy<'a> {
+pub enum MadeBy<'a> {
     Vector(&'a VectorSpec),
     Parts(&'a PartsSpec),
     Matrix(&'a MatrixSpec),
@@ -66,7 +66,7 @@ fn behind_vectors(job: &Job, k: usize) -> MadeBy
 }
 
 /// What makes value `k`.
-pub(crate) fn maker_at(job: &Job, k: usize) -> MadeBy
+pub fn maker_at(job: &Job, k: usize) -> MadeBy
     ensures { maker_seen result ≡ maker_of job.now k }
 {
     let vectors = job.vectors.as_slice();

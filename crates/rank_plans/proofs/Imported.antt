@@ -15,7 +15,7 @@ use Rattle.rank_plans.specs.Tasks.{import_of}
 use Rattle.rank_plans.proofs.Targets.{lacked-owned, owner_by}
 use Rattle.rank_plans.proofs.Wants.{wants_of}
 
-each-of : {A : Type 0} (g : List ℕ → A) (xs : List (List ℕ)) (P : ℕ) → length xs ≡ P → map g xs ≡ map (λ q. g (slice_index_or xs q [])) (range_with_len 0 P)
+pub each-of : {A : Type 0} (g : List ℕ → A) (xs : List (List ℕ)) (P : ℕ) → length xs ≡ P → map g xs ≡ map (λ q. g (slice_index_or xs q [])) (range_with_len 0 P)
 each-of g xs P e = ext_get_or (g []) (map g xs) (map (λ q. g (slice_index_or xs q [])) (range_with_len 0 P)) (length-map xs g ∙ e ∙ sym (length-map-range_with_len (λ q. g (slice_index_or xs q [])) 0 P))
     (λ i h.
     let n : length (map g xs) ≡ P = length-map xs g ∙ e in

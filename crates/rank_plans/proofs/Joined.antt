@@ -1,12 +1,12 @@
 -- A book and the plans of a job.
-use Rattle.std.proofs.Common.{ℕ, ◌<◌, length, refl, ap, arith}
+use Rattle.std.proofs.Common.{◌<◌, length, refl, ap, arith}
 use Rattle.map_core.specs.Layouts.{owner}
 use Rattle.map_core.specs.Classes.{owns}
 use Rattle.map_core.proofs.Owners.{owner-below}
 use Rattle.model_defs.specs.Maps.{layout_of}
 use Rattle.model_defs.specs.Transfers.{owner_map}
 use Rattle.model_defs.specs.Plans.{lacking}
-use Rattle.rank_plans.specs.JobPlans.{AnswersNameOwners, ImportsLackTheRest, OwnListsAreRemote, QuestionsAreAsked, RegistrationsAreEntries}
+use Rattle.rank_plans.specs.JobPlans.{AnswersNameOwners, ExportsLackTheRest, ImportsLackTheRest, OwnListsAreRemote, QuestionsAreAsked, RegistrationsAreEntries}
 use Rattle.rank_plans.proofs.Known.{answered-words, filter-within}
 
 pub registrations_are_entries : RegistrationsAreEntries
@@ -17,6 +17,9 @@ questions_are_asked job files plan p q = refl
 
 pub imports_lack_the_rest : ImportsLackTheRest
 imports_lack_the_rest job files source target p = refl
+
+pub exports_lack_the_rest : ExportsLackTheRest
+exports_lack_the_rest job files source target p = refl
 
 pub answers_name_owners : AnswersNameOwners
 answers_name_owners job files m g xs few ranks on =

@@ -4,6 +4,8 @@ mod Fresh
 mod Targets
 mod Wants
 mod Imported
+mod Exported
 mod Changes
+mod Made
 mod Mapped
-mod Joined
+pub mod Joined

@@ -1,13 +1,13 @@
 -- The words and the conditions of a book are those that the plans of a job give.
 use Rattle.std.specs.Prelude.{◌≡◌, ℕ, ◌≤◌, true, List, map, length, Option, filter}
-use Rattle.map_core.specs.Layouts.{Layout, owner, stands}
+use Rattle.map_core.specs.Layouts.{owner, stands}
 use Rattle.map_core.specs.Classes.{owns}
 use Rattle.map_core.specs.Homes.{homed}
 use Rattle.mm_text.specs.Reading.{File}
 use Rattle.model_defs.specs.declared.job.Job.{Job}
 use Rattle.model_defs.specs.declared.phase.About.TheVariants.{RegisterMap}
 use Rattle.model_defs.specs.declared.phase.Plan.{Plan}
-use Rattle.model_defs.specs.declared.phase.Plan.TheVariants.{ImportPlan}
+use Rattle.model_defs.specs.declared.phase.Plan.TheVariants.{ImportPlan, ExportPlan}
 use Rattle.model_defs.specs.Maps.{layout_of, list_of, size_of}
 use Rattle.model_defs.specs.Transfers.{owner_map}
 use Rattle.model_defs.specs.Plans.{lacking}
@@ -28,6 +28,11 @@ QuestionsAreAsked =
 abbrev pub ImportsLackTheRest : Type 0
 ImportsLackTheRest =
     (job : Job) (files : List File) (source target p : ℕ) → lacked_in (list_of job source p) (list_of job target p) ≡ lacking job files (ImportPlan source target) p
+
+-- By an export a rank lacks those of the source's list that the target's list has not.
+abbrev pub ExportsLackTheRest : Type 0
+ExportsLackTheRest =
+    (job : Job) (files : List File) (source target p : ℕ) → lacked_in (list_of job target p) (list_of job source p) ≡ lacking job files (ExportPlan source target) p
 
 -- Answers name the owners of the map, if these are ranks.
 abbrev pub AnswersNameOwners : Type 0

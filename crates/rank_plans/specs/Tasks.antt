@@ -90,3 +90,17 @@ import_of me P source target own told =
       exports = map (λ q. places source (told q)) (range_with_len 0 P);
       remotes = map (λ q. places target (own q)) (range_with_len 0 P);
     }
+
+-- The finished plan of an export, by what the rank gives to each rank and what each rank gives to it: positions are in the
+-- source and in the target.
+abbrev pub export_of : (me P : ℕ) → (source target : List ℕ) → (own told : ℕ → List ℕ) → PlanLists
+export_of me P source target own told =
+    record {
+      me = me;
+      ranks = P;
+      same = same_count source target;
+      permute_to = places target (indices_at source (permuted target source));
+      permute_from = permuted target source;
+      exports = map (λ q. places source (own q)) (range_with_len 0 P);
+      remotes = map (λ q. places target (told q)) (range_with_len 0 P);
+    }

@@ -1,5 +1,5 @@
 //! Laws that join a book to the plans of a job. Each function here does nothing: its contract holds of every job.
-ghost use Rattle.rank_plans.specs.JobPlans.{AnswersNameOwners, ImportsLackTheRest, OwnListsAreRemote, QuestionsAreAsked, RegistrationsAreEntries};
+ghost use Rattle.rank_plans.specs.JobPlans.{AnswersNameOwners, ExportsLackTheRest, ImportsLackTheRest, OwnListsAreRemote, QuestionsAreAsked, RegistrationsAreEntries};
 
 /// The words that a book makes are the entries of the letters of a job: what is registered of a map, what is asked by a plan,
 /// and what an import lacks.
@@ -14,4 +14,9 @@ pub fn words_are_entries()
 pub fn owners_are_named()
     ensures answers { AnswersNameOwners }
     ensures lists { OwnListsAreRemote }
+{}
+
+/// What a rank lacks by an export: it holds these indices without owning them, and gives them to their owners.
+pub fn exports_give_the_rest()
+    ensures { ExportsLackTheRest }
 {}

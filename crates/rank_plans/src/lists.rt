@@ -6,7 +6,7 @@ ghost use Rattle.model_defs.specs.declared.phase.Plan.{Plan};
 ghost use Rattle.model_defs.specs.Transfers.{same_plan};
 ghost use Rattle.rank_plans.specs.Answers.{lacked_in};
 ghost use Rattle.rank_plans.specs.Books.{has_plan, lacking_of, made_of, own_of, slices, told_of};
-ghost use Rattle.rank_plans.specs.Tasks.{import_of};
+ghost use Rattle.rank_plans.specs.Tasks.{export_of, import_of};
 
 use crate::PlanBook;
 use crate::places::task_place;
@@ -59,6 +59,30 @@ impl PlanBook {
     {
         let at = task_place(&self.plans, plan);
         self.plans[at].finish_import(self.alloc, self.me, source, target)?;
+        Ok(())
+    }
+
+    /// Makes the plan of an export that was begun, of what is given to each rank and what each rank told. `source` and `target`
+    /// are this rank's lists of the two maps: the plan's lacking indices are those of the source that the target has not, none
+    /// of them is this rank's own, and the target has all that other ranks give. The positions are local indices of the source
+    /// and of the target. All else stays.
+    pub fn finish_export(
+        &mut self,
+        plan: Plan,
+        source: &Rc<LocalMap>,
+        target: &Rc<LocalMap>,
+    ) -> Result<(), AllocError>
+        requires known_plan { has_plan self.old plan ≡ true }
+        requires lacking { lacking_of self.old plan ≡ lacked_in target.now.value source.now.value }
+        requires none_of_own { own_of self.old plan self.old.me ≡ [] }
+        requires held { (q : ℕ) → q < self.old.ranks → All (λ g. stands g target.now.value ≡ true) (told_of self.old plan q) }
+        ensures made { OnOk result (made_of self.new plan ≡ Some (export_of self.old.me self.old.ranks source.now.value target.now.value (own_of self.old plan) (told_of self.old plan))) }
+        ensures within { OnOk result (IsWithin (length source.now.value) (length target.now.value) (export_of self.old.me self.old.ranks source.now.value target.now.value (own_of self.old plan) (told_of self.old plan))) }
+        ensures others { OnOk result ((other : Plan) → same_plan other plan ≡ false → made_of self.new other ≡ made_of self.old other) }
+        ensures stays { OnOk result (slices self.new ≡ record (slices self.old) { made = made_of self.new }) }
+    {
+        let at = task_place(&self.plans, plan);
+        self.plans[at].finish_export(self.alloc, self.me, source, target)?;
         Ok(())
     }
 }

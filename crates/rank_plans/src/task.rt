@@ -6,12 +6,13 @@ ghost use Rattle.map_core.specs.Homes.{homed, is_home};
 ghost use Rattle.map_core.specs.Plans.{IsWithin};
 ghost use Rattle.directory.specs.Directories.{answer_for};
 ghost use Rattle.rank_plans.specs.Answers.{answered, filled, known_at, lacked_in};
-ghost use Rattle.rank_plans.specs.Tasks.{asked_by, asking, import_of, owned_of, ruled, told_by};
+ghost use Rattle.rank_plans.specs.Tasks.{asked_by, asking, export_of, import_of, owned_of, ruled, told_by};
 
 use crate::answers::{
     answer_words, filled_owners, owned_indices, owners_by_rule, owners_of_target,
 };
 use directory::{Directory, questions};
+use export_plan::{ExportPlan, OfferFault};
 use import_plan::{ImportPlan, WantFault};
 use map_core::{Gid, LocalMap};
 use model_defs::Plan;
@@ -233,6 +234,29 @@ impl PlanTask {
         self.made = Some(import.finish()?);
         Ok(())
     }
+
+    /// Makes the plan of an export. `Err` means that memory ran out.
+    pub(crate) fn finish_export(
+        &mut self,
+        alloc: Global,
+        me: u32,
+        source: &Rc<LocalMap>,
+        target: &Rc<LocalMap>,
+    ) -> Result<(), AllocError>
+        requires own_rank { me < self.old.ranks }
+        requires lacking { self.old.lacking ≡ lacked_in target.now.value source.now.value }
+        requires none_of_own { owned_of self.old me ≡ [] }
+        requires held { (q : ℕ) → q < self.old.ranks → All (λ g. stands g target.now.value ≡ true) (told_by self.old q) }
+        ensures made { OnOk result (self.new ≡ record self.old { made = Some (export_of me self.old.ranks source.now.value target.now.value (owned_of self.old) (told_by self.old)) }) }
+        ensures within { OnOk result (IsWithin (length source.now.value) (length target.now.value) (export_of me self.old.ranks source.now.value target.now.value (owned_of self.old) (told_by self.old))) }
+        ensures ranks { self.new.ranks ≡ self.old.ranks }
+    {
+        let owners = owners_of_target(alloc, me, target, source, &self.owners)?;
+        let mut export = ExportPlan::start(alloc, me, self.ranks, source, target, &owners)?;
+        accept_offers(&mut export, &self.told)?;
+        self.made = Some(export.finish()?);
+        Ok(())
+    }
 }
 
 /// Accepts what each rank lacks.
@@ -248,6 +272,24 @@ fn accept_all(import: &mut ImportPlan, told: &[Vec<Gid>]) -> Result<(), AllocErr
             Ok(()) => {}
             Err(WantFault::NoMem) => return Err(AllocError),
             Err(WantFault::NotHeld { .. }) => unreachable!(),
+        }
+    }
+    Ok(())
+}
+
+/// Accepts what each rank gives.
+fn accept_offers(export: &mut ExportPlan, told: &[Vec<Gid>]) -> Result<(), AllocError>
+    requires of_each { length told.now ≡ export.old.ranks }
+    requires ranks_limit { export.old.ranks ≤ 32 }
+    requires none { export.old.offers ≡ map (λ _. None) (range_with_len 0 export.old.ranks) }
+    requires held { All (λ v. All (λ g. stands g export.old.target ≡ true) v.items) told.now }
+    ensures accepted { OnOk result (export.new ≡ record export.old { offers = map (λ v. Some v.items) told.now }) }
+{
+    for at in 0..told.len() {
+        match export.accept_offer(at as u32, &told[at]) {
+            Ok(()) => {}
+            Err(OfferFault::NoMem) => return Err(AllocError),
+            Err(OfferFault::NotHeld { .. }) => unreachable!(),
         }
     }
     Ok(())

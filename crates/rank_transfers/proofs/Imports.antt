@@ -34,10 +34,10 @@ module _ (job : Job) (files : List File) (source target p : ℕ) where
   kept test g xs e = and_true (stands g xs) (test g) (sym (stands-filter g test xs) ∙ e)
 
   -- what another rank lacks of it is its own, and what it lacks is of its target
-  sent-placed : (q : ℕ) → ArePlaced (list_of job source p) (remote job files plan_of q p)
+  pub sent-placed : (q : ℕ) → ArePlaced (list_of job source p) (remote job files plan_of q p)
   sent-placed q = all-placed (list_of job source p) (remote job files plan_of q p) (λ g e. (kept (owns job files plan_of p) g (lacking job files plan_of q) e).1)
 
-  lacked-placed : (q : ℕ) → ArePlaced (list_of job target p) (remote job files plan_of p q)
+  pub lacked-placed : (q : ℕ) → ArePlaced (list_of job target p) (remote job files plan_of p q)
   lacked-placed q =
       all-placed (list_of job target p) (remote job files plan_of p q)
       (λ g e. (kept (λ x. not (owns job files plan_of p x)) g (list_of job target p) (kept (owns job files plan_of q) g (lacking job files plan_of p) e).0).0)

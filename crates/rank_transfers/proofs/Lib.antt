@@ -4,5 +4,8 @@ pub mod Found
 pub mod Came
 pub mod Listed
 pub mod Imports
+pub mod Exports
 pub mod JobBytes
 pub mod Moved
+pub mod Unsent
+pub mod Local

@@ -30,7 +30,7 @@ stands-indices xs f (a ∷ more) h = by (eqb a f) refl (stands-indices xs f more
     by true e rest h = ap (λ b. b || stands (index_at xs f) (indices_at xs more)) (eq-eqb (index_at xs a) (index_at xs f) (ap (index_at xs) (eqb-true a f e)))
     by false e rest h = later (eqb (index_at xs a) (index_at xs f)) (stands (index_at xs f) (indices_at xs more)) (rest h)
 
-distinct-positions : (xs froms : List ℕ) → AreDistinct (indices_at xs froms) → AreDistinct froms
+pub distinct-positions : (xs froms : List ℕ) → AreDistinct (indices_at xs froms) → AreDistinct froms
 distinct-positions xs [] h = tt
 distinct-positions xs (f ∷ fs) h = (by (stands f fs) refl, distinct-positions xs fs h.1)
   where

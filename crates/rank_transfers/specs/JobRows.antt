@@ -1,5 +1,5 @@
--- The transfer of a rank of a job by the plan of an import: what `Arriving` asks of the plan, and which of the job's rows its
--- rows are.
+-- The transfer of a rank of a job by the plan of an import or of an export: what `Arriving` asks of the plan, and which of the
+-- job's rows its rows are.
 use Rattle.std.specs.Prelude.{◌≡◌, ℕ, ◌<◌, List, length}
 use Rattle.tables.specs.Indices.{AreBelow}
 use Rattle.map_core.specs.Classes.{indices_at, permuted, places, same_count}
@@ -10,8 +10,8 @@ use Rattle.mm_text.specs.Reading.{File}
 use Rattle.model_defs.specs.declared.job.Job.{Job}
 use Rattle.model_defs.specs.Maps.{list_of}
 use Rattle.model_defs.specs.Plans.{brought, remote, sent_rows}
-use Rattle.model_defs.specs.declared.phase.Plan.TheVariants.{ImportPlan}
-use Rattle.model_defs.specs.Transfers.{from_owners}
+use Rattle.model_defs.specs.declared.phase.Plan.TheVariants.{ImportPlan, ExportPlan}
+use Rattle.model_defs.specs.Transfers.{from_owners, to_owners}
 use Rattle.model_defs.specs.Valid.{IsValid}
 use Rattle.rank_values.specs.Vectors.{global_table}
 use Rattle.rank_transfers.specs.Arrivals.{HasFewRows, HasTargets, own_rows, rows_from, rows_to}
@@ -29,6 +29,20 @@ pub record IsJobImport (job : Job) (files : List File) (source target p : ℕ) (
       → export_list plan q ≡ places (list_of job source p) (remote job files (ImportPlan source target) q p)
   pub remotes : (q : ℕ) → q < job.ranks
       → remote_list plan q ≡ places (list_of job target p) (remote job files (ImportPlan source target) p q)
+
+-- A plan of rank p has the lists of an export from one map of the job to another: what is the same and permuted in its lists of
+-- the two, the positions of what it gives to each rank, and the positions of what each rank gives to it.
+pub record IsJobExport (job : Job) (files : List File) (source target p : ℕ) (plan : PlanLists) : Type 0 where
+  pub is_plan : IsPlan plan
+  pub ranks : plan.ranks ≡ job.ranks
+  pub same : plan.same ≡ same_count (list_of job source p) (list_of job target p)
+  pub permute_to : plan.permute_to
+      ≡ places (list_of job target p) (indices_at (list_of job source p) (permuted (list_of job target p) (list_of job source p)))
+  pub permute_from : plan.permute_from ≡ permuted (list_of job target p) (list_of job source p)
+  pub exports : (q : ℕ) → q < job.ranks
+      → export_list plan q ≡ places (list_of job source p) (remote job files (ExportPlan source target) p q)
+  pub remotes : (q : ℕ) → q < job.ranks
+      → remote_list plan q ≡ places (list_of job target p) (remote job files (ExportPlan source target) q p)
 
 -- What a vector is begun by it asks of a plan for vectors on these lists.
 pub record CanBegin (source target : List ℕ) (plan : PlanLists) : Type 0 where
@@ -62,3 +76,29 @@ OwnRowsAreBrought S =
     (job : Job) (files : List File) (source target p : ℕ) (plan : PlanLists) (v : VectorState S) → IsJobImport job files source target p plan
     → v.map ≡ list_of job source p
     → own_rows plan v ≡ brought job files (from_owners (ImportPlan source target)) (global_table v) p p
+
+-- The same of an export.
+abbrev pub ExportsCanBegin : Type 0
+ExportsCanBegin =
+    (job : Job) (files : List File) (source target p : ℕ) (plan : PlanLists) → IsValid job → IsJobExport job files source target p plan
+    → CanBegin (list_of job source p) (list_of job target p) plan
+
+abbrev pub ExportsAreSent : Type 0
+ExportsAreSent =
+    (job : Job) (files : List File) (source target p q : ℕ) (plan : PlanLists) → IsJobExport job files source target p plan
+    → q < job.ranks
+    → (rows_to plan (list_of job source p) q ≡ sent_rows job files (to_owners (ExportPlan source target)) p q)
+    × AreBelow (length (list_of job source p)) (export_list plan q)
+
+abbrev pub ExportsCome : Type 0
+ExportsCome =
+    (job : Job) (files : List File) (source target p q : ℕ) (plan : PlanLists) → IsJobExport job files source target p plan
+    → q < job.ranks
+    → rows_from plan (list_of job target p) q ≡ sent_rows job files (to_owners (ExportPlan source target)) q p
+
+-- What stays are the rows that the rank has and owns.
+abbrev pub OwnExportsAreBrought : Type 0 → Type 0
+OwnExportsAreBrought S =
+    (job : Job) (files : List File) (source target p : ℕ) (plan : PlanLists) (v : VectorState S) → IsJobExport job files source target p plan
+    → v.map ≡ list_of job source p
+    → own_rows plan v ≡ brought job files (to_owners (ExportPlan source target)) (global_table v) p p

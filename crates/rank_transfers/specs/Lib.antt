@@ -2,3 +2,4 @@ pub mod Arrivals
 pub mod JobRows
 pub mod JobLetters
 pub mod JobMoves
+pub mod JobLocals
