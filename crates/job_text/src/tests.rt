@@ -62,7 +62,7 @@ pub fn after(
     is(rt, alloc, whole.as_str(), wanted)
 }
 
-/// Today maps, vectors, parts, `update`, `scale` and `print` are built.
+/// Today maps, vectors, parts, `move`, `update`, `scale` and `print` are built.
 #[test]
 fn words_of_today(rt: HostRuntime) -> Result<(), Fail> {
     let alloc = rt.alloc();
@@ -77,6 +77,11 @@ fn words_of_today(rt: HostRuntime) -> Result<(), Fail> {
         "Missing map.0.name"
     );
     let text = "ranks = 2\n[[do]]\nop = \"move\"";
+    assert_eq!(rt;
+        answer(alloc, TODAY, text.as_bytes())?.as_str(),
+        "Missing do.0.name"
+    );
+    let text = "ranks = 2\n[[do]]\nop = \"import\"";
     assert_eq!(rt;
         answer(alloc, TODAY, text.as_bytes())?.as_str(),
         "WrongKind do.0.op"

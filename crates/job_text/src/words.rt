@@ -69,7 +69,7 @@ pub const TODAY: Unbuilt = Unbuilt {
     blocks: false,
     cyclic: false,
     lists: false,
-    moves: true,
+    moves: false,
     imports: true,
     exports: true,
     spreads: true,

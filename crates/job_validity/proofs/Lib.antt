@@ -6,7 +6,7 @@ pub mod Seen
 pub mod GivenFacts
 pub mod StatementFacts
 pub mod StepFacts
-pub mod LocalSteps
+pub mod VectorSteps
 pub mod Traces
 pub mod Absent
 pub mod Reading

@@ -1,4 +1,4 @@
--- Each job that is read is valid, and with the words that are built by now it needs no letters.
+-- Each job that is read is valid, and with the words that are built by now it is a job of vectors.
 use Rattle.std.proofs.Common.{◌≡◌, List, [], ◌∷◌, length, refl, arith}
 use Rattle.std.specs.List.{All}
 use Rattle.std.proofs.lemmas.List.Elements.{All-nil, All-cons}
@@ -6,13 +6,13 @@ use Rattle.model_defs.specs.declared.job.Job.{Job}
 use Rattle.model_defs.specs.declared.job.Step.{Step}
 use Rattle.model_defs.specs.Maps.{no_map}
 use Rattle.model_defs.specs.Limits.{IsWithinLimits, IsSmallForm, HasFewCells}
-use Rattle.model_defs.specs.Local.{IsLocalJob, IsLocalStep}
 use Rattle.model_defs.specs.Valid.{IsValid}
 use Rattle.job_text.specs.declared.words.Unbuilt.{Unbuilt}
 use Rattle.job_text.specs.declared.words.TheConstants.{TODAY}
 use Rattle.job_text.specs.Known.{Known, no_names, with_step}
 use Rattle.job_text.specs.Whole.{job_by, job_of}
-use Rattle.job_validity.specs.Laws.{ReadJobsAreValid, ReadJobsAreLocal}
+use Rattle.vector_jobs.specs.VectorJobs.{IsVectorJob, IsVectorStep}
+use Rattle.job_validity.specs.Laws.{ReadJobsAreValid, ReadJobsAreVectorJobs}
 use Rattle.job_validity.proofs.Outcomes.{answer}
 use Rattle.job_validity.proofs.MapFacts.{IsGoodSpec}
 use Rattle.job_validity.proofs.Seen.{IsVectorFor, IsPartsFor}
@@ -55,21 +55,21 @@ module _ (u : Unbuilt) (job : Job) (h : IsReadJob u job) where
     prints = steps-printable job u h.tables;
   }
 
--- ---- without letters
+-- ---- with the words that are built by now
 
-local-steps : (u : Unbuilt) (steps : List Step) (known : Known) → u ≡ TODAY → AreFor with_step (IsReadStep u) known steps → All IsLocalStep steps
-local-steps u [] known e h = All-nil IsLocalStep
-local-steps u (s ∷ ss) known e h = All-cons IsLocalStep s ss (h.0.local e) (local-steps u ss (with_step known s) e h.1)
+vector-steps : (u : Unbuilt) (steps : List Step) (known : Known) → u ≡ TODAY → AreFor with_step (IsReadStep u) known steps → All IsVectorStep steps
+vector-steps u [] known e h = All-nil IsVectorStep
+vector-steps u (s ∷ ss) known e h = All-cons IsVectorStep s ss (h.0.vectors e) (vector-steps u ss (with_step known s) e h.1)
 
 none-left : {A : Type 0} (xs : List A) → length xs ≡ 0 → xs ≡ []
 none-left [] e = refl
 none-left (x ∷ xs) e = absurd (omega arith)
 
-read-local : (job : Job) → IsReadJob TODAY job → IsLocalJob job
-read-local job h = record { matrices = none-left job.matrices (h.local refl); steps = local-steps TODAY job.steps (after_matrices job) refl h.tables.steps }
+read-vectors : (job : Job) → IsReadJob TODAY job → IsVectorJob job
+read-vectors job h = record { matrices = none-left job.matrices (h.no_matrices refl); steps = vector-steps TODAY job.steps (after_matrices job) refl h.tables.steps }
 
 pub read-jobs-are-valid : ReadJobsAreValid
 read-jobs-are-valid = λ u text job e. read-valid u job (answer (IsReadJob u) (job_by u text) job (job-read u text) e)
 
-pub read-jobs-are-local : ReadJobsAreLocal
-read-jobs-are-local = λ text job e. read-local job (answer (IsReadJob TODAY) (job_of text) job (job-read TODAY text) e)
+pub read-jobs-are-vector-jobs : ReadJobsAreVectorJobs
+read-jobs-are-vector-jobs = λ text job e. read-vectors job (answer (IsReadJob TODAY) (job_of text) job (job-read TODAY text) e)

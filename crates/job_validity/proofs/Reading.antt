@@ -129,7 +129,7 @@ pub record IsReadJob (u : Unbuilt) (job : Job) : Type 0 where
   pub given : length job.vectors + length job.parts + length job.matrices ≤ most_given
   pub steps : length job.steps ≤ most_steps
   pub tables : IsOfTables u job
-  pub local : u ≡ TODAY → length job.matrices ≡ 0
+  pub no_matrices : u ≡ TODAY → length job.matrices ≡ 0
 
 module _ (u : Unbuilt) (top : Members) where
   no-matrix : unknown_in (top_form u) top ≡ None → u ≡ TODAY → get_member (codes "matrix") top ≡ None
@@ -167,7 +167,7 @@ module _ (u : Unbuilt) (top : Members) where
             given = omega (arith, many.vectors, many.parts, many.matrices);
             steps = omega (arith, many.steps);
             tables = h.1;
-            local = λ e. many.matrices ∙ none e;
+            no_matrices = λ e. many.matrices ∙ none e;
           }
 
 pub job-read : (u : Unbuilt) (text : List ℕ) → Holds (IsReadJob u) (job_by u text)

@@ -2,12 +2,13 @@
 //!
 //! `job_text` reads a text as a `Job` of `model_defs`, or refuses it. Here it is shown that each job that it reads is valid:
 //! its names are apart, its sizes within the limits, its maps layouts, and the operands of each statement fit. With the words
-//! that are built by now it is a job without letters. The crate has laws alone, and no code that runs. It stands on `job_text`
-//! and `model_defs`; what carries out the jobs of texts stands on it.
+//! that are built by now it is a job of vectors: it has no matrix, and its statements move a value, go cell by cell, or print.
+//! The crate has laws alone, and no code that runs. It stands on `job_text`, and on `model_defs` and `vector_jobs`, which say
+//! what valid jobs and jobs of vectors are; what carries out the jobs of texts stands on it.
 //!
 //! ```text
 //! let job = read_job(alloc, text)?;   // job_of text ≡ Ok job
-//! read_jobs_are_valid();              // so IsValid job, and IsLocalJob job
+//! read_jobs_are_valid();              // so IsValid job, and IsVectorJob job
 //! ```
 #![tactic(auto)]
 

@@ -1,10 +1,9 @@
--- A rank's pieces of the values of a job without letters, one after the other.
-use Rattle.std.proofs.Common.{◌≡◌, ℕ, zero, suc, ◌+◌, ◌-◌, ◌<◌, ◌≤◌, ◌⊎◌, inl, inr, Bool, true, false, cond, List, [], ◌∷◌, ◌++◌, map, filter, take, length, get_or, Option, None, Some, refl, sym, ap, ◌∙◌, subst, arith, append-nil}
-use Rattle.std.specs.Prelude.{All, pos, slice_get}
-use Rattle.std.proofs.lemmas.Bool.{cases_lt}
-use Rattle.std.proofs.lemmas.List.{length-append, length-map, get_or_append_left, get_or-append-add, get_or-map, take_all, get_or_push}
-use Rattle.std.proofs.lemmas.List.Elements.{All-get_or}
-use Rattle.std.proofs.lemmas.Option.{get_or_from_slice_get, slice_get-get_or, slice_get_within, same_Some}
+-- A rank's pieces of the values of a job that are made without letters, one after the other.
+use Rattle.std.proofs.Common.{◌≡◌, ℕ, zero, suc, ◌+◌, ◌-◌, ◌<◌, ◌≤◌, ◌⊎◌, inl, inr, cond, List, [], ◌∷◌, ◌++◌, map, filter, length, get_or, Option, Some, refl, sym, ap, ◌∙◌, subst, arith, append_assoc}
+use Rattle.std.specs.Prelude.{pos, slice_get}
+use Rattle.std.proofs.lemmas.Bool.{cases_lt, lt-ltb}
+use Rattle.std.proofs.lemmas.List.{length-append, length-map, get_or_append_left, get_or-append-add, get_or_push}
+use Rattle.std.proofs.lemmas.Option.{get_or_from_slice_get, slice_get-get_or, slice_get_within}
 use Rattle.scalar_laws.specs.Semiring.{Semiring}
 use Rattle.scalar_laws.specs.Conversions.{Conversions}
 use Rattle.tables.specs.Tables.{Table, nowhere}
@@ -14,43 +13,44 @@ use Rattle.model_defs.specs.declared.job.Job.{Job}
 use Rattle.model_defs.specs.declared.job.Origin.TheVariants.{Fill}
 use Rattle.model_defs.specs.declared.job.VectorSpec.{VectorSpec}
 use Rattle.model_defs.specs.declared.job.PartsSpec.{PartsSpec}
+use Rattle.model_defs.specs.declared.job.MatrixSpec.{MatrixSpec}
 use Rattle.model_defs.specs.declared.job.Step.{Step}
 use Rattle.model_defs.specs.declared.job.Step.TheVariants as step
 use Rattle.model_defs.specs.FileMatrix.{number_of}
 use Rattle.model_defs.specs.Given.{given}
-use Rattle.model_defs.specs.Local.{IsLocalStep}
+use Rattle.peers.specs.Protocols.{Letter}
+use Rattle.rank_stages.proofs.MadeValues.{first_pieces_are_pieces, pieces_are_made}
+use Rattle.vector_jobs.specs.VectorJobs.{IsVectorJob, IsVectorStep}
+use Rattle.vector_jobs.specs.VectorPhases.{IsVectorMaker}
+use Rattle.vector_jobs.proofs.VectorMakers.{makers-are-vectors, shapes-are-on-maps}
 use Rattle.model_defs.specs.Machine.{arrivals, piece}
-use Rattle.model_defs.specs.Makers.{Maker, GivenVector, GivenParts, GivenMatrix, Made, makers, maker_of, value_count, gives_value}
+use Rattle.model_defs.specs.Makers.{Maker, GivenVector, GivenParts, GivenMatrix, Made, maker_of, value_count, gives_value}
 use Rattle.model_defs.specs.Maps.{list_of}
 use Rattle.model_defs.specs.Operations.{combination, scaled}
 use Rattle.model_defs.specs.Pieces.{piece_of}
 use Rattle.model_defs.specs.declared.shape.Sort.TheVariants.{Vector, Parts}
 use Rattle.model_defs.specs.Shapes.{shape, shape_by, dense_shape}
-use Rattle.model_defs.specs.Stages.{first_pieces, made_by, made_piece, last_way}
+use Rattle.model_defs.specs.Stages.{first_pieces, gathered_after, made_by, last_way, stage_count}
 use Rattle.model_defs.specs.declared.phase.Way.{Way}
 use Rattle.model_defs.specs.Transfers.{transfers}
 use Rattle.model_defs.specs.Turns.{Each}
 use Rattle.model_defs.specs.Valid.{IsValid, IsValidMaker, IsValidStep}
 use Rattle.model_defs.proofs.KnownShapes.{shape-of-made}
-use Rattle.model_defs.proofs.ShapeLists.{filter-take}
 use Rattle.rank_share.specs.declared.share.Share.{Share}
 use Rattle.rank_share.specs.Shares.{cell_count}
 use Rattle.rank_share.proofs.Positions.{cells-before, maker-vector, maker-parts}
 use Rattle.rank_share.proofs.SharedCells.{law-of-cells}
 use Rattle.rank_values.specs.Vectors.{global_table, lines_on}
 use Rattle.rank_core.specs.Inputs.{IsRankInput}
-use Rattle.rank_core.specs.Steps.{AreAlike, CanMake, IsOnListOf, IsStepPiece}
-use Rattle.rank_core.specs.Workers.{AreOwnValues, IsOwnValue}
-use Rattle.rank_core.proofs.LocalJobs.{piece-before, piece-made}
+use Rattle.rank_core.specs.Steps.{CanMake, IsStepPiece}
+use Rattle.rank_core.specs.Pieces.{AreOwnValues, IsArrived, IsMadeHere, IsOwnValue}
+use Rattle.rank_core.proofs.MovedHere.{on-itself, stays-here}
 
 abbrev no_vector : VectorSpec
 no_vector = record { name = []; map = 0; columns = 0; from = Fill (pos 0) }
 
 abbrev no_parts : PartsSpec
 no_parts = record { name = []; map = 0; columns = 0; from = Fill (pos 0) }
-
-abbrev no_step : Step
-no_step = step.Print 0
 
 -- ---- given values
 
@@ -90,23 +90,38 @@ module _ (job : Job) (valid : IsValid job) where
           let ok = subst (IsValidMaker job k) (ap (maker_of job) same ∙ maker-parts job m no_parts low) (valid.values k known) in
           subst (λ r. r < length job.maps) (sym (ap (λ s. s.rows) (ap (shape job) same ∙ parts-shape m no_parts low))) ok.0
 
-module _ {S : Type 0} (R : Semiring S) (F : Conversions S) (job : Job) (files : List File) (me : ℕ) (share : Share) (input : IsRankInput F job files me share) where
+module _ {S : Type 0} (R : Semiring S) (F : Conversions S) (job : Job) (files : List File) (me : ℕ) (share : Share) (input : IsRankInput F job files me share) (g : List Letter) where
   abbrev Piece : ℕ → Table S
-  Piece v = piece R F job files me v []
+  Piece v = piece R F job files me v g
+
+  abbrev mine : ℕ → Each (Table S)
+  mine k = first_pieces R F job files me (arrivals R F job files me g) k
+
+  abbrev got : ℕ → Table S
+  got k = gathered_after R F job files me (arrivals R F job files me g) k (mine k) (stage_count job k)
+
+  -- a piece is made of those before it and of what was gathered
+  pub piece-is : (k : ℕ) (m : Maker) → k < value_count job → maker_of job k ≡ m → piece R F job files me k g
+      ≡ made_by R F job files me k (last_way (transfers job k)) (first_pieces R F job files me (arrivals R F job files me g) k)
+      (gathered_after R F job files me (arrivals R F job files me g) k (first_pieces R F job files me (arrivals R F job files me g) k) (stage_count job k)) m
+  piece-is k m known e = pieces_are_made R F job files me k g known ∙ ap (made_by R F job files me k (last_way (transfers job k)) (mine k) (got k)) e
+
+  pub before : (k x : ℕ) → x < k → k < value_count job → first_pieces R F job files me (arrivals R F job files me g) k x ≡ piece R F job files me x g
+  before k x l known = first_pieces_are_pieces R F job files me k x g known ∙ ap (λ b. cond b (Piece x) nowhere) (lt-ltb x k l)
 
   -- what a rank makes of a given vector or of given parts
   abbrev IsGiven : ℕ → Maker → Type 0
-  IsGiven k m = (way : Way) (mine : Each (Table S)) (got : Table S) → made_by R F job files me k way mine got m ≡ piece_of job (shape job k) me (given R F job files k m)
+  IsGiven k m = (way : Way) (before : Each (Table S)) (came : Table S) → made_by R F job files me k way before came m ≡ piece_of job (shape job k) me (given R F job files k m)
 
   is-given : (k : ℕ) → k < cell_count job → IsGiven k (maker_of job k)
   is-given k l = go (cases job input.valid k l)
     where
       go : Cases job input.valid k → IsGiven k (maker_of job k)
-      go (inl m) = subst (IsGiven k) (sym (maker-vector job k no_vector m)) (λ way mine got. refl)
-      go (inr (m, same, low)) = subst (IsGiven k) (sym (ap (maker_of job) same ∙ maker-parts job m no_parts low)) (λ way mine got. refl)
+      go (inl m) = subst (IsGiven k) (sym (maker-vector job k no_vector m)) (λ way before came. refl)
+      go (inr (m, same, low)) = subst (IsGiven k) (sym (ap (maker_of job) same ∙ maker-parts job m no_parts low)) (λ way before came. refl)
 
   pub given-own : (k : ℕ) (v : VectorState S) → k < cell_count job → v.map ≡ list_of job (shape job k).rows me → v.columns ≡ (shape job k).columns
-      → global_table v ≡ lines_on R F (list_of job (shape job k).rows me) (shape job k).columns (get_or share.cells k []) → IsOwnValue R F job files me k v
+      → global_table v ≡ lines_on R F (list_of job (shape job k).rows me) (shape job k).columns (get_or share.cells k []) → IsOwnValue R F job files me g k v
   given-own k v l same many table =
       let known : k < value_count job = (let b = cells-before job in omega arith) in
       record {
@@ -116,13 +131,12 @@ module _ {S : Type 0} (R : Semiring S) (F : Conversions S) (job : Job) (files : 
             table
             ∙ ap (λ s. lines_on R F (list_of job (shape job k).rows me) (shape job k).columns (get_or s.cells k [])) input.given
             ∙ sym (law-of-cells R F job files input.valid input.fitting me k input.rank l)
-            ∙ sym (piece-made job input.local R F files me k known
-            ∙ is-given k l (last_way (transfers job k)) (first_pieces R F job files me (arrivals R F job files me []) k) nowhere);
+            ∙ sym (piece-is k (maker_of job k) known refl ∙ is-given k l (last_way (transfers job k)) (mine k) (got k));
       }
 
   -- one more
-  pub one-more : (n : ℕ) (values : List (VectorState S)) (v : VectorState S) → AreOwnValues R F job files me n values → IsOwnValue R F job files me n v
-      → AreOwnValues R F job files me (n + 1) (values ++ v ∷ [])
+  pub one-more : (n : ℕ) (values : List (VectorState S)) (v : VectorState S) → AreOwnValues R F job files me g n values → IsOwnValue R F job files me g n v
+      → AreOwnValues R F job files me g (n + 1) (values ++ v ∷ [])
   one-more n values v own new =
       let many = own.many in
       record {
@@ -130,7 +144,7 @@ module _ {S : Type 0} (R : Semiring S) (F : Conversions S) (job : Job) (files : 
         each = λ k w at. go k w at (cases_lt k (length values));
       }
     where
-      go : (k : ℕ) (w : VectorState S) → slice_get (values ++ v ∷ []) k ≡ Some w → (k < length values) ⊎ (length values ≤ k) → IsOwnValue R F job files me k w
+      go : (k : ℕ) (w : VectorState S) → slice_get (values ++ v ∷ []) k ≡ Some w → (k < length values) ⊎ (length values ≤ k) → IsOwnValue R F job files me g k w
       go k w at (inl low) =
           let one : get_or values k w ≡ w = sym (get_or_append_left values (v ∷ []) w k low) ∙ get_or_from_slice_get (values ++ v ∷ []) k w w at in
           own.each k w (slice_get-get_or values k w low ∙ ap (λ x. Some x) one)
@@ -141,12 +155,20 @@ module _ {S : Type 0} (R : Semiring S) (F : Conversions S) (job : Job) (files : 
           let end : k ≡ length values = omega arith in
           let here : k ≡ n = omega arith in
           let one : v ≡ w = sym (get_or_push values v w k (sym end)) ∙ get_or_from_slice_get (values ++ v ∷ []) k w w at in
-          subst (λ m. IsOwnValue R F job files me m w) (sym here) (subst (IsOwnValue R F job files me n) one new)
+          subst (λ m. IsOwnValue R F job files me g m w) (sym here) (subst (IsOwnValue R F job files me g n) one new)
+
+  -- the vector that came behind those before it
+  pub with-arrived : (values new : List (VectorState S)) (v : VectorState S) (arrived : Option (VectorState S)) → arrived ≡ Some v → new ≡ values ++ v ∷ []
+      → AreOwnValues R F job files me g (length values) values → IsArrived R F job files me g (length values) arrived → AreOwnValues R F job files me g (length new) new
+  with-arrived values new v arrived is grown own came =
+      let long : length new ≡ length values + 1 = ap length grown ∙ length-append values (v ∷ []) in
+      subst (λ n. AreOwnValues R F job files me g n new) (sym long)
+      (subst (AreOwnValues R F job files me g (length values + 1)) (sym grown) (one-more (length values) values v own (subst (IsArrived R F job files me g (length values)) is came)))
 
   -- ---- statements
 
-  module _ (n : ℕ) (values : List (VectorState S)) (own : AreOwnValues R F job files me n values) (known : n < value_count job) where
-    stands-at : (x : ℕ) → x < n → (a : VectorState S) × (slice_get values x ≡ Some a)
+  module _ (n : ℕ) (values : List (VectorState S)) (own : AreOwnValues R F job files me g n values) (known : n < value_count job) where
+    pub stands-at : (x : ℕ) → x < n → (a : VectorState S) × (slice_get values x ≡ Some a)
     stands-at x l = let many = own.many in some values x (let low : x < length values = omega arith in low)
       where
         some : (xs : List (VectorState S)) (k : ℕ) → k < length xs → (a : VectorState S) × (slice_get xs k ≡ Some a)
@@ -157,19 +179,14 @@ module _ {S : Type 0} (R : Semiring S) (F : Conversions S) (job : Job) (files : 
     shape-is : (s : Step) → maker_of job n ≡ Made s → shape job n ≡ shape_by n (shape job) (Made s)
     shape-is s maker = shape-of-made job input.valid n known ∙ ap (shape_by n (shape job)) maker
 
-    piece-is : (s : Step) → maker_of job n ≡ Made s → Piece n ≡ made_by R F job files me n (last_way (transfers job n)) (first_pieces R F job files me (arrivals R F job files me []) n) nowhere (Made s)
-    piece-is s maker =
-        piece-made job input.local R F files me n known
-        ∙ ap (made_by R F job files me n (last_way (transfers job n)) (first_pieces R F job files me (arrivals R F job files me []) n) nowhere) maker
-
-    before : (x : ℕ) → x < n → first_pieces R F job files me (arrivals R F job files me []) n x ≡ Piece x
-    before x l = piece-before job input.local R F files me x n l (omega arith)
-
     valid-step : (s : Step) → maker_of job n ≡ Made s → IsValidStep job n s
     valid-step s maker = subst (IsValidMaker job n) maker (input.valid.values n known)
 
-    pub can-make : (s : Step) → maker_of job n ≡ Made s → IsLocalStep s → CanMake values s
-    can-make (step.Update name x y alpha beta) maker local =
+    pub can-make : (s : Step) → maker_of job n ≡ Made s → IsVectorStep s → CanMake values s
+    can-make (step.Move name source m) maker vector =
+        let ok = valid-step (step.Move name source m) maker in
+        let many = own.many in omega (arith, ok.0)
+    can-make (step.Update name x y alpha beta) maker vector =
         let ok = valid-step (step.Update name x y alpha beta) maker in
         let many = own.many in (
           omega (arith, ok.0),
@@ -179,20 +196,36 @@ module _ {S : Type 0} (R : Semiring S) (F : Conversions S) (job : Job) (files : 
               let right = own.each y b at_y in
               (left.map ∙ ap (λ m. list_of job m me) ok.4 ∙ sym right.map, left.columns ∙ ok.5 ∙ sym right.columns),
         )
-    can-make (step.Scale name value alpha) maker local = let low = valid-step (step.Scale name value alpha) maker in let many = own.many in omega (arith, low)
-    can-make (step.Print value) maker local = tt
-    can-make (step.Move name source m) maker local = absurd (local)
-    can-make (step.Import name source onto mode) maker local = absurd (local)
-    can-make (step.Export name source onto mode) maker local = absurd (local)
-    can-make (step.Spread name source m) maker local = absurd (local)
-    can-make (step.Apply name a x y alpha beta transposed) maker local = absurd (local)
-    can-make (step.Transpose name a) maker local = absurd (local)
-    can-make (step.Multiply name a b) maker local = absurd (local)
-    can-make (step.Add name a b alpha beta) maker local = absurd (local)
-    can-make (step.Assemble name source onto mode) maker local = absurd (local)
+    can-make (step.Scale name value alpha) maker vector = let low = valid-step (step.Scale name value alpha) maker in let many = own.many in omega (arith, low)
+    can-make (step.Print value) maker vector = absurd (valid-step (step.Print value) maker)
+    can-make (step.Import name source onto mode) maker vector = absurd (vector)
+    can-make (step.Export name source onto mode) maker vector = absurd (vector)
+    can-make (step.Spread name source m) maker vector = absurd (vector)
+    can-make (step.Apply name a x y alpha beta transposed) maker vector = absurd (vector)
+    can-make (step.Transpose name a) maker vector = absurd (vector)
+    can-make (step.Multiply name a b) maker vector = absurd (vector)
+    can-make (step.Add name a b alpha beta) maker vector = absurd (vector)
+    can-make (step.Assemble name source onto mode) maker vector = absurd (vector)
 
-    pub step-own : (s : Step) (v : VectorState S) → maker_of job n ≡ Made s → IsStepPiece R F values s (Some v) → IsOwnValue R F job files me n v
-    step-own (step.Update name x y alpha beta) v maker made =
+    pub step-own : (s : Step) (v : VectorState S) → maker_of job n ≡ Made s → IsMadeHere job n → IsStepPiece R F values s v → IsOwnValue R F job files me g n v
+    step-own (step.Move name source m) v maker here made =
+        let s = step.Move name source m in
+        let ok = valid-step s maker in
+        let a = stands-at source ok.0 in
+        let left = own.each source a.0 a.1 in
+        let is = made a.0 a.1 in
+        let dense = (shapes-are-on-maps job input.valid input.vectors n known).dense in
+        let itself = on-itself R F job files me g n name source m maker dense known here in
+        let columns : (shape job source).columns ≡ (shape job n).columns = sym (ap (λ t. t.columns) (shape-is s maker)) in
+        record {
+          map = is.0.map ∙ left.map ∙ ap (λ m. list_of job m me) (itself ∙ sym (ap (λ t. t.rows) (shape-is s maker)));
+          columns = is.0.columns ∙ left.columns ∙ columns;
+          piece =
+              is.0.table
+              ∙ sym (piece-is n (Made s) known maker
+              ∙ stays-here R F job files me g n name source m maker dense known here a.0 is.1 left.map (left.columns ∙ columns) (left.piece ∙ sym (before n source ok.0 known)));
+        }
+    step-own (step.Update name x y alpha beta) v maker here made =
         let s = step.Update name x y alpha beta in
         let ok = valid-step s maker in
         let a = stands-at x ok.0 in
@@ -206,9 +239,9 @@ module _ {S : Type 0} (R : Semiring S) (F : Conversions S) (job : Job) (files : 
           piece =
               is.table
               ∙ (λ t. combination R (number_of R F alpha) (left.piece t) (number_of R F beta) (right.piece t))
-              ∙ sym (piece-is s maker ∙ (λ t. combination R (number_of R F alpha) (before x ok.0 t) (number_of R F beta) (before y ok.1 t)));
+              ∙ sym (piece-is n (Made s) known maker ∙ (λ t. combination R (number_of R F alpha) (before n x ok.0 known t) (number_of R F beta) (before n y ok.1 known t)));
         }
-    step-own (step.Scale name value alpha) v maker made =
+    step-own (step.Scale name value alpha) v maker here made =
         let s = step.Scale name value alpha in
         let ok = valid-step s maker in
         let a = stands-at value ok in
@@ -217,138 +250,76 @@ module _ {S : Type 0} (R : Semiring S) (F : Conversions S) (job : Job) (files : 
         record {
           map = is.map ∙ left.map ∙ ap (λ m. list_of job m me) (sym (ap (λ t. t.rows) (shape-is s maker)));
           columns = is.columns ∙ left.columns ∙ sym (ap (λ t. t.columns) (shape-is s maker));
-          piece = is.table ∙ ap (scaled R (number_of R F alpha)) left.piece ∙ sym (piece-is s maker ∙ ap (scaled R (number_of R F alpha)) (before value ok));
+          piece = is.table ∙ ap (scaled R (number_of R F alpha)) left.piece ∙ sym (piece-is n (Made s) known maker ∙ ap (scaled R (number_of R F alpha)) (before n value ok known));
         }
-    step-own (step.Print value) v maker made = absurd (made)
-    step-own (step.Move name source m) v maker made = absurd (made)
-    step-own (step.Import name source onto mode) v maker made = absurd (made)
-    step-own (step.Export name source onto mode) v maker made = absurd (made)
-    step-own (step.Spread name source m) v maker made = absurd (made)
-    step-own (step.Apply name a x y alpha beta transposed) v maker made = absurd (made)
-    step-own (step.Transpose name a) v maker made = absurd (made)
-    step-own (step.Multiply name a b) v maker made = absurd (made)
-    step-own (step.Add name a b alpha beta) v maker made = absurd (made)
-    step-own (step.Assemble name source onto mode) v maker made = absurd (made)
+    step-own (step.Print value) v maker here made = absurd (made)
+    step-own (step.Import name source onto mode) v maker here made = absurd (made)
+    step-own (step.Export name source onto mode) v maker here made = absurd (made)
+    step-own (step.Spread name source m) v maker here made = absurd (made)
+    step-own (step.Apply name a x y alpha beta transposed) v maker here made = absurd (made)
+    step-own (step.Transpose name a) v maker here made = absurd (made)
+    step-own (step.Multiply name a b) v maker here made = absurd (made)
+    step-own (step.Add name a b alpha beta) v maker here made = absurd (made)
+    step-own (step.Assemble name source onto mode) v maker here made = absurd (made)
 
--- ---- the numbers of the values of statements
+-- ---- which values are given
 
--- how many values the first statements give, after the given ones
-abbrev pub made_before : Job → ℕ → ℕ
-made_before job at = cell_count job + length (filter gives_value (take at job.steps))
+-- neither a vector nor parts
+abbrev IsBehind : Maker → Type 0
+IsBehind (GivenVector spec) = ⊥
+IsBehind (GivenParts spec) = ⊥
+IsBehind _ = Unit {0}
 
-module _ (job : Job) (none : job.matrices ≡ []) where
-  steps-of : List Maker
-  steps-of = map Made (filter gives_value job.steps)
+behind-steps : (ys : List Step) (n : ℕ) → IsBehind (get_or (map Made ys) n (Made (step.Print 0)))
+behind-steps [] n = tt
+behind-steps (y ∷ ys) zero = tt
+behind-steps (y ∷ ys) (suc n) = behind-steps ys n
 
-  makers-are : makers job ≡ (map GivenVector job.vectors ++ map GivenParts job.parts) ++ steps-of
-  unfolding steps-of
-  makers-are = (λ t. ((map GivenVector job.vectors ++ map GivenParts job.parts) ++ map GivenMatrix (none t)) ++ map Made (filter gives_value job.steps)) ∙ ap (λ xs. xs ++ map Made (filter gives_value job.steps)) (append-nil (map GivenVector job.vectors ++ map GivenParts job.parts))
+behind-cells : (xs : List MatrixSpec) (ys : List Step) (n : ℕ) → IsBehind (get_or (map GivenMatrix xs ++ map Made ys) n (Made (step.Print 0)))
+behind-cells [] ys n = behind-steps ys n
+behind-cells (x ∷ xs) ys zero = tt
+behind-cells (x ∷ xs) ys (suc n) = behind-cells xs ys n
 
+module _ (job : Job) where
   cells-many : length (map GivenVector job.vectors ++ map GivenParts job.parts) ≡ cell_count job
   cells-many = length-append (map GivenVector job.vectors) (map GivenParts job.parts) ∙ (λ t. length-map job.vectors GivenVector t + length-map job.parts GivenParts t)
 
-  pub all-made : made_before job (length job.steps) ≡ value_count job
-  unfolding steps-of
-  all-made =
-      ap (λ xs. cell_count job + length (filter gives_value xs)) (take_all (length job.steps) job.steps (omega arith))
-      ∙ sym (ap length makers-are ∙ length-append (map GivenVector job.vectors ++ map GivenParts job.parts) steps-of ∙ (λ t. cells-many t + length-map (filter gives_value job.steps) Made t))
+  maker-behind : (n : ℕ) → IsBehind (maker_of job (cell_count job + n))
+  maker-behind n =
+      let front = map GivenVector job.vectors ++ map GivenParts job.parts in
+      let back = map GivenMatrix job.matrices ++ map Made (filter gives_value job.steps) in
+      let same : maker_of job (cell_count job + n) ≡ get_or back n (Made (step.Print 0)) =
+      ap (λ xs. get_or xs (cell_count job + n) (Made (step.Print 0))) (append_assoc front (map GivenMatrix job.matrices) (map Made (filter gives_value job.steps)))
+      ∙ ap (λ c. get_or (front ++ back) (c + n) (Made (step.Print 0))) (sym cells-many)
+      ∙ get_or-append-add front back n (Made (step.Print 0)) in
+      subst IsBehind (sym same) (behind-cells job.matrices (filter gives_value job.steps) n)
 
-  -- the n-th of those that pass
-  passed-at : (xs : List Step) (at : ℕ) (d : Step) → at < length xs → gives_value (get_or xs at d) ≡ true
-      → get_or (filter gives_value xs) (length (filter gives_value (take at xs))) d ≡ get_or xs at d
-  passed-at [] at d l e = absurd (omega arith)
-  passed-at (x ∷ xs) zero d l e = ap (λ b. get_or (cond b (x ∷ filter gives_value xs) (filter gives_value xs)) 0 d) e
-  passed-at (x ∷ xs) (suc at) d l e = go (gives_value x) (passed-at xs at d (omega arith) e)
-    where
-      go : (b : Bool) → get_or (filter gives_value xs) (length (filter gives_value (take at xs))) d ≡ get_or xs at d → get_or (cond b (x ∷ filter gives_value xs) (filter gives_value xs)) (length (cond b (x ∷ filter gives_value (take at xs)) (filter gives_value (take at xs)))) d ≡ get_or xs at d
-      go true rest = rest
-      go false rest = rest
+  among-cells : (k : ℕ) → (IsBehind (maker_of job k) → ⊥) → k < cell_count job
+  among-cells k not_behind = elim (cases_lt k (cell_count job)) [
+    | inl low ↦ low
+    | inr high ↦ absurd (not_behind (subst (λ n. IsBehind (maker_of job n)) (let whole : cell_count job + (k - cell_count job) ≡ k = omega arith in whole) (maker-behind (k - cell_count job))))
+  ]
 
-  passed-below : (xs : List Step) (at : ℕ) (d : Step) → at < length xs → gives_value (get_or xs at d) ≡ true → length (filter gives_value (take at xs)) < length (filter gives_value xs)
-  passed-below [] at d l e = absurd (omega arith)
-  passed-below (x ∷ xs) zero d l e = subst (λ b. 0 < length (cond b (x ∷ filter gives_value xs) (filter gives_value xs))) (sym e) (omega arith)
-  passed-below (x ∷ xs) (suc at) d l e = go (gives_value x) (passed-below xs at d (omega arith) e)
-    where
-      go : (b : Bool) → length (filter gives_value (take at xs)) < length (filter gives_value xs) → length (cond b (x ∷ filter gives_value (take at xs)) (filter gives_value (take at xs))) < length (cond b (x ∷ filter gives_value xs) (filter gives_value xs))
-      go true rest = omega arith
-      go false rest = rest
+  pub given-vector : (k : ℕ) (spec : VectorSpec) → maker_of job k ≡ GivenVector spec → k < cell_count job
+  given-vector k spec e = among-cells k (λ behind. subst IsBehind e behind)
 
-  pub step-known : (at : ℕ) (d : Step) → at < length job.steps → gives_value (get_or job.steps at d) ≡ true → made_before job at < value_count job
-  step-known at d l e =
-      let low = passed-below job.steps at d l e in
-      let all = all-made in
-      let whole : length (filter gives_value (take (length job.steps) job.steps)) ≡ length (filter gives_value job.steps) = ap (λ xs. length (filter gives_value xs)) (take_all (length job.steps) job.steps (omega arith)) in
-      omega arith
+  pub given-parts : (k : ℕ) (spec : PartsSpec) → maker_of job k ≡ GivenParts spec → k < cell_count job
+  given-parts k spec e = among-cells k (λ behind. subst IsBehind e behind)
 
-  pub maker-step : (at : ℕ) (d : Step) → at < length job.steps → gives_value (get_or job.steps at d) ≡ true → maker_of job (made_before job at) ≡ Made (get_or job.steps at d)
-  unfolding steps-of
-  maker-step at d l e =
-      (λ t. get_or (makers-are t) (made_before job at) (Made (step.Print 0)))
-      ∙ ap (λ c. get_or ((map GivenVector job.vectors ++ map GivenParts job.parts) ++ steps-of) (c + length (filter gives_value (take at job.steps))) (Made (step.Print 0))) (sym cells-many)
-      ∙ get_or-append-add (map GivenVector job.vectors ++ map GivenParts job.parts) steps-of (length (filter gives_value (take at job.steps))) (Made (step.Print 0))
-      ∙ get_or-map Made (filter gives_value job.steps) (length (filter gives_value (take at job.steps))) d (Made (step.Print 0)) (passed-below job.steps at d l e)
-      ∙ ap Made (passed-at job.steps at d l e)
+  module _ (valid : IsValid job) (k : ℕ) (known : k < value_count job) where
+    pub shape-vector : (spec : VectorSpec) → maker_of job k ≡ GivenVector spec → shape job k ≡ dense_shape k Vector spec.map spec.columns
+    shape-vector spec e = shape-of-made job valid k known ∙ ap (shape_by k (shape job)) e
 
-  pub made-next : (at : ℕ) (d : Step) → at < length job.steps → gives_value (get_or job.steps at d) ≡ true → made_before job (at + 1) ≡ made_before job at + 1
-  made-next at d l e =
-      ap (λ xs. cell_count job + length xs) (filter-take gives_value job.steps at d l ∙ ap (λ b. filter gives_value (take at job.steps) ++ cond b (get_or job.steps at d ∷ []) []) e)
-      ∙ (let more = length-append (filter gives_value (take at job.steps)) (get_or job.steps at d ∷ []) in omega arith)
+    pub shape-parts : (spec : PartsSpec) → maker_of job k ≡ GivenParts spec → shape job k ≡ dense_shape k Parts spec.map spec.columns
+    shape-parts spec e = shape-of-made job valid k known ∙ ap (shape_by k (shape job)) e
 
-  pub made-same : (at : ℕ) (d : Step) → at < length job.steps → gives_value (get_or job.steps at d) ≡ false → made_before job (at + 1) ≡ made_before job at
-  made-same at d l e =
-      ap (λ xs. cell_count job + length xs) (filter-take gives_value job.steps at d l ∙ ap (λ b. filter gives_value (take at job.steps) ++ cond b (get_or job.steps at d ∷ []) []) e ∙ append-nil (filter gives_value (take at job.steps)))
+    -- a statement that makes a value of a job of vectors
+    pub vector-step : IsVectorJob job → (s : Step) → maker_of job k ≡ Made s → IsVectorStep s
+    vector-step vectors s e = subst IsVectorMaker e (makers-are-vectors job valid vectors k known)
 
--- a statement that makes a piece gives a value, and one that makes none does not
-pub gives-some : {S : Type 0} (R : Semiring S) (F : Conversions S) (values : List (VectorState S)) (s : Step) (v : VectorState S) → IsStepPiece R F values s (Some v) → gives_value s ≡ true
-gives-some R F values (step.Update name x y alpha beta) v made = refl
-gives-some R F values (step.Scale name value alpha) v made = refl
-gives-some R F values (step.Print value) v made = absurd (made)
-gives-some R F values (step.Move name source m) v made = absurd (made)
-gives-some R F values (step.Import name source onto mode) v made = absurd (made)
-gives-some R F values (step.Export name source onto mode) v made = absurd (made)
-gives-some R F values (step.Spread name source m) v made = absurd (made)
-gives-some R F values (step.Apply name a x y alpha beta transposed) v made = absurd (made)
-gives-some R F values (step.Transpose name a) v made = absurd (made)
-gives-some R F values (step.Multiply name a b) v made = absurd (made)
-gives-some R F values (step.Add name a b alpha beta) v made = absurd (made)
-gives-some R F values (step.Assemble name source onto mode) v made = absurd (made)
+    pub no-matrix : IsVectorJob job → (spec : MatrixSpec) → maker_of job k ≡ GivenMatrix spec → ⊥
+    no-matrix vectors spec e = subst IsVectorMaker e (makers-are-vectors job valid vectors k known)
 
-pub gives-none : {S : Type 0} (R : Semiring S) (F : Conversions S) (values : List (VectorState S)) (s : Step) → IsStepPiece R F values s None → gives_value s ≡ false
-gives-none R F values (step.Print value) made = refl
-gives-none R F values (step.Update name x y alpha beta) made = absurd (made)
-gives-none R F values (step.Scale name value alpha) made = absurd (made)
-gives-none R F values (step.Move name source m) made = absurd (made)
-gives-none R F values (step.Import name source onto mode) made = absurd (made)
-gives-none R F values (step.Export name source onto mode) made = absurd (made)
-gives-none R F values (step.Spread name source m) made = absurd (made)
-gives-none R F values (step.Apply name a x y alpha beta transposed) made = absurd (made)
-gives-none R F values (step.Transpose name a) made = absurd (made)
-gives-none R F values (step.Multiply name a b) made = absurd (made)
-gives-none R F values (step.Add name a b alpha beta) made = absurd (made)
-gives-none R F values (step.Assemble name source onto mode) made = absurd (made)
-
--- the operands of the statement at this place are there
-pub can-make-at : {S : Type 0} (R : Semiring S) (F : Conversions S) (job : Job) (files : List File) (me : ℕ) (own : Share) → IsRankInput F job files me own
-    → (at : ℕ) (d : Step) (values : List (VectorState S)) → at < length job.steps → AreOwnValues R F job files me (made_before job at) values
-    → IsLocalStep (get_or job.steps at d) → CanMake values (get_or job.steps at d)
-can-make-at R F job files me own input at d values l made local = go (gives_value (get_or job.steps at d)) refl
-  where
-    go : (b : Bool) → gives_value (get_or job.steps at d) ≡ b → CanMake values (get_or job.steps at d)
-    go true e =
-        can-make R F job files me own input (made_before job at) values made (step-known job input.local.matrices at d l e) (get_or job.steps at d)
-        (maker-step job input.local.matrices at d l e) local
-    go false e = prints (get_or job.steps at d) e
-      where
-        prints : (s : Step) → gives_value s ≡ false → CanMake values s
-        prints (step.Print value) f = tt
-        prints (step.Update name x y alpha beta) f = absurd (cc)
-        prints (step.Scale name value alpha) f = absurd (cc)
-        prints (step.Move name source m) f = tt
-        prints (step.Import name source onto mode) f = tt
-        prints (step.Export name source onto mode) f = tt
-        prints (step.Spread name source m) f = tt
-        prints (step.Apply name a x y alpha beta transposed) f = tt
-        prints (step.Transpose name a) f = tt
-        prints (step.Multiply name a b) f = tt
-        prints (step.Add name a b alpha beta) f = tt
-        prints (step.Assemble name source onto mode) f = tt
+    -- nothing is printed in place of a value
+    pub no-print : (value : ℕ) → maker_of job k ≡ Made (step.Print value) → ⊥
+    no-print value e = subst (IsValidMaker job k) e (valid.values k known)

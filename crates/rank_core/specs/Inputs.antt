@@ -4,17 +4,17 @@ use Rattle.scalar_laws.specs.Conversions.{Conversions}
 use Rattle.mm_text.specs.Reading.{File}
 use Rattle.model_defs.specs.declared.job.Job.{Job}
 use Rattle.model_defs.specs.Fitting.{IsFitting}
-use Rattle.model_defs.specs.Local.{IsLocalJob}
 use Rattle.model_defs.specs.Numbers.{HaveNumbers}
 use Rattle.model_defs.specs.Valid.{IsValid}
 use Rattle.rank_share.specs.declared.share.Share.{Share}
 use Rattle.rank_share.specs.Shares.{share as share_of}
+use Rattle.vector_jobs.specs.VectorJobs.{IsVectorJob}
 
 -- A valid job, files that fit it and whose integers have numbers of the kind, one of the ranks, and the share of the files
--- that it is given. By now it is a job without letters.
+-- that it is given. By now it is a job of vectors.
 pub record IsRankInput {S : Type 0} (F : Conversions S) (job : Job) (files : List File) (me : ℕ) (share : Share) : Type 0 where
   pub valid : IsValid job
-  pub local : IsLocalJob job
+  pub vectors : IsVectorJob job
   pub fitting : IsFitting job files
   pub numbers : HaveNumbers F job files
   pub rank : me < job.ranks

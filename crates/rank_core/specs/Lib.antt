@@ -1,5 +1,9 @@
 pub mod Inputs
 pub mod Results
+pub mod Counts
 pub mod Steps
+pub mod Pieces
+pub mod Gatherings
+pub mod Begun
 pub mod Workers
 pub mod Ranks

@@ -1,8 +1,8 @@
--- What a statement makes of a rank's vectors.
-use Rattle.std.specs.Prelude.{◌≡◌, ◌<◌, ℕ, List, Option, None, Some, length, slice_get}
+-- What a statement makes of a rank's vectors without letters.
+use Rattle.std.specs.Prelude.{◌≡◌, ◌<◌, ℕ, List, Option, Some, length, slice_get}
 use Rattle.scalar_laws.specs.Semiring.{Semiring}
 use Rattle.scalar_laws.specs.Conversions.{Conversions}
-use Rattle.multivector.specs.Vectors.{VectorState}
+use Rattle.multivector.specs.Vectors.{IsVector, VectorState}
 use Rattle.model_defs.specs.declared.job.Step.{Step}
 use Rattle.model_defs.specs.declared.job.Step.TheVariants as step
 use Rattle.model_defs.specs.FileMatrix.{number_of}
@@ -15,9 +15,10 @@ AreAlike {S} values x y = (a b : VectorState S) → slice_get values x ≡ Some 
 
 -- the operands are among the vectors, and those that are added are alike
 abbrev pub CanMake : {S : Type 0} → List (VectorState S) → Step → Type 0
+CanMake values (step.Move name source m) = source < length values
 CanMake values (step.Update name x y alpha beta) = (x < length values) × (y < length values) × AreAlike values x y
 CanMake values (step.Scale name value alpha) = value < length values
-CanMake values _ = Unit {0}
+CanMake values _ = ⊥
 
 -- a vector on the list of another one, with this table
 pub record IsOnListOf {S : Type 0} (a : VectorState S) (t : (ℕ → ℕ → Option S)) (v : VectorState S) : Type 0 where
@@ -25,12 +26,13 @@ pub record IsOnListOf {S : Type 0} (a : VectorState S) (t : (ℕ → ℕ → Opt
   pub columns : v.columns ≡ a.columns
   pub table : global_table v ≡ t
 
--- what the statement makes of the vectors, if it makes one
-abbrev pub IsStepPiece : {S : Type 0} → Semiring S → Conversions S → List (VectorState S) → Step → Option (VectorState S) → Type 0
-IsStepPiece {S} R F values (step.Update name x y alpha beta) (Some v) =
+-- what the statement makes of the vectors; one that moves to its own map stays as it is
+abbrev pub IsStepPiece : {S : Type 0} → Semiring S → Conversions S → List (VectorState S) → Step → VectorState S → Type 0
+IsStepPiece {S} R F values (step.Move name source m) v =
+    (a : VectorState S) → slice_get values source ≡ Some a → IsOnListOf a (global_table a) v × IsVector a
+IsStepPiece {S} R F values (step.Update name x y alpha beta) v =
     (a b : VectorState S) → slice_get values x ≡ Some a → slice_get values y ≡ Some b
     → IsOnListOf b (combination R (number_of R F alpha) (global_table a) (number_of R F beta) (global_table b)) v
-IsStepPiece {S} R F values (step.Scale name value alpha) (Some v) =
+IsStepPiece {S} R F values (step.Scale name value alpha) v =
     (a : VectorState S) → slice_get values value ≡ Some a → IsOnListOf a (scaled R (number_of R F alpha) (global_table a)) v
-IsStepPiece R F values (step.Print value) None = Unit {0}
-IsStepPiece R F values _ _ = ⊥
+IsStepPiece R F values _ v = ⊥

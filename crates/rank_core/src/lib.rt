@@ -5,22 +5,33 @@
 //! its results, are what the protocol of the job (`model_defs`) says of the letters given to it. `specs/Ranks` says what
 //! contracts see of a rank.
 //!
-//! By now a rank carries out jobs without letters: vectors and parts, `update`, `scale` and `print`.
+//! By now a rank carries out jobs of vectors: vectors and parts, `move`, `update`, `scale` and `print`. A value that moves is
+//! made in phases: maps are registered, owners are asked for and told, each rank says what it lacks, and its numbers come
+//! (`Tpetra::Import`). All other values are made without letters, as soon as those before them are there.
 //!
 //! ```text
 //! let share = share_of(alloc, &job, &files, me)?;
 //! let mut rank = Rank::<Weighed>::start(alloc, me, &job, share)?;
 //! rank.work()?;
+//! while let Some(name) = rank.first_post() { ..; rank.sent(); }     // rank.post_bytes() are the letter's
+//! rank.on_letter(name, bytes)?;
 //! let cells = rank.piece(0)?;             // its cells of the first value, by row, then column
 //! ```
 //!
-//! It stands on `rank_phases`, whose frame it fills with a worker, on `rank_share` and on `rank_values`. The run of all ranks
-//! stands on it.
+//! It stands on `rank_phases`, whose frame it fills with a worker: on `plan_phases` for the phases that make plans, on
+//! `rank_transfers` for those that send numbers, on `rank_share` and on `rank_values`. The run of all ranks stands on it.
 #![tactic(auto)]
 
+mod beginning;
+mod counts;
+mod gathering;
 mod making;
+mod names;
 mod rank;
+mod steps;
 mod worker;
 
+pub use counts::EntryCounts;
+pub use gathering::Gathering;
 pub use rank::Rank;
 pub use worker::JobWorker;

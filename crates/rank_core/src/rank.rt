@@ -5,7 +5,7 @@ ghost use Rattle.peers.specs.Peers.{PeerState, fresh};
 ghost use Rattle.tables.specs.Tables.{AreInOrder, found};
 ghost use Rattle.model_defs.specs.Machine.{job_protocol};
 ghost use Rattle.rank_phases.specs.Ranks.{has_failed, is_past};
-ghost use Rattle.rank_core.specs.Ranks.{IsFinished, IsPhaseAt, IsRank, IsRankInput, is_over_there, result_table};
+ghost use Rattle.rank_core.specs.Ranks.{IsEntriesGiven, IsFinished, IsPhaseAt, IsRank, IsRankInput, is_over_there, result_table};
 
 use crate::JobWorker;
 use model_defs::Job;
@@ -28,13 +28,14 @@ pub struct Rank<S> {
 
 impl<S: Scalar + Drop> Rank<S> {
     /// The rank `me` of a valid job, counted from 0, which was given nothing yet. `share` is its share of files that fit the
-    /// job, as `share_of` gives it. By now the job is one without letters. `Err` means that memory ran out.
+    /// job, as `share_of` gives it. By now the job is one of vectors: it has no matrix, and
+    /// its statements are `move`, `update`, `scale` and `print`. `Err` means that memory ran out.
     pub fn start(alloc: Global, me: u32, job: &Rc<Job>, share: Share) -> Result<Rank<S>, AllocError>
         requires input { (files : List File) × IsRankInput S.conversions job.now.value files me share }
         ensures fresh { IfOk result (λ rank. (files : List File) → IsRankInput S.conversions job.now.value files me share
             → IsRank S.semiring S.conversions rank (fresh (job_protocol S.semiring S.conversions job.now.value files) me)) }
     {
-        let worker = JobWorker::new(alloc, me, job.clone()?, share);
+        let worker = JobWorker::new(alloc, me, job.clone()?, share)?;
         Ok(Rank {
             alloc,
             phased: Phased::new(alloc, worker),
@@ -71,6 +72,16 @@ impl<S: Scalar + Drop> Rank<S> {
             }
         }
         false
+    }
+
+    /// How many entries the letter has that another rank sent to this one in a phase, if it sent one. The rank has worked, and was
+    /// given all letters to it. It takes no memory.
+    pub fn entries_from(&self, phase: u32, from: u32) -> Option<u64>
+        requires done { (s : PeerState) × (IsRank S.semiring S.conversions self.now s × IsFinished s) }
+        ensures entries { (s : PeerState) → IsRank S.semiring S.conversions self.now s → IsFinished s
+            → IsEntriesGiven s.given (record { phase = phase; from = from; to = s.me }) result }
+    {
+        self.phased.worker().entries_from(phase, from)
     }
 
     /// The phase that a rank which has worked is in: the first of which it awaits a letter, or the number of phases.

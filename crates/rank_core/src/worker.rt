@@ -1,47 +1,87 @@
 //! What a rank of a job does in its phases.
-ghost use Rattle.std.specs.Prelude.{◌≡◌, List, length};
+ghost use Rattle.std.specs.Prelude.{◌≡◌, ◌<◌, ℕ, List, Option, None, Some, ◌∷◌, [], true, false, is_some, IfOk, OnOk, OnErr, length, slice_get, suc};
+ghost use Rattle.byte_pool.specs.Leases.{leases, with_lease};
 ghost use Rattle.mm_text.specs.Reading.{File};
 ghost use Rattle.model_defs.specs.Machine.{job_protocol};
+ghost use Rattle.model_defs.specs.declared.phase.About.TheVariants.{SendNumbers};
+ghost use Rattle.model_defs.specs.declared.phase.Phase.{Phase};
+ghost use Rattle.model_defs.specs.Makers.{value_count};
 ghost use Rattle.model_defs.specs.Phases.{phases};
-ghost use Rattle.rank_phases.specs.Stages.{beginning};
+ghost use Rattle.rank_phases.specs.Phases.{names_from, names_to};
+ghost use Rattle.rank_phases.specs.Stages.{Stage, CanAbsorb, CanEnter, CanSend, absorbing, beginning, entering};
+ghost use Rattle.rank_stages.specs.JobStages.{about_at};
+ghost use Rattle.rank_stages.specs.LetterLaws.{sends_numbers};
 ghost use Rattle.rank_core.specs.Inputs.{IsRankInput};
 
-use crate::making::own_values;
+use crate::Gathering;
+use crate::beginning::begin_gathering;
+use crate::counts::EntryCounts;
+use crate::gathering::arrived_vector;
+use crate::making::make_values;
+use crate::names::row_letters;
 use byte_pool::{Lease, Pool};
-use model_defs::Job;
+use model_defs::{About, Job, Phase, Shape, shapes};
 use multivector::MultiVector;
 use outside::Name;
-use rank_phases::{Entered, Worker};
+use phase_list::phases;
+use plan_phases::{absorb_words, enter_phase, finish_phase, phase_words};
+use rank_phases::{Entered, Worker, names_from_others, names_to_others};
+use rank_plans::PlanBook;
 use rank_share::Share;
 use scalar_laws::Scalar;
 use std::alloc::{AllocError, Global};
 use std::rc::Rc;
+use word_letters::{entries_of_letter, lease_words, words_of_letter};
 
-/// The worker of a rank of a job: the job, the rank's share of the files, and its pieces of the values that were made.
+/// The worker of a rank of a job: the job, the rank's share of the files, its pieces of the values that were made, its maps and
+/// plans, and in a phase that sends numbers the value to which they come.
 #[derive(Drop)]
 pub struct JobWorker<S> {
     alloc: Global,
     me: u32,
     job: Rc<Job>,
     share: Share,
+    shapes: Vec<Shape>,
+    phases: Vec<Phase>,
+    phase_count: u32,
     values: Vec<MultiVector<S>>,
+    book: PlanBook,
+    gathering: Option<Gathering<S>>,
+    counts: EntryCounts,
 }
 
 impl<S: Scalar> JobWorker<S> {
-    ghost use Rattle.rank_core.specs.Workers.{IsJobWorker};
+    ghost use Rattle.rank_core.specs.Counts.{count_of};
+    ghost use Rattle.rank_core.specs.Pieces.{count_before};
+    ghost use Rattle.rank_core.specs.Workers.{IsJobWorker, IsLeaving, IsReady};
 
-    /// A worker that entered no phase.
-    pub(crate) fn new(alloc: Global, me: u32, job: Rc<Job>, share: Share) -> JobWorker<S>
-        ensures stands { (files : List File) → IsRankInput S.conversions job.value files me share
-            → IsJobWorker S.semiring S.conversions result (beginning (job_protocol S.semiring S.conversions job.value files) (length (phases job.value)) me) }
+    /// A worker that entered no phase. `Err` means that memory ran out.
+    pub(crate) fn new(
+        alloc: Global,
+        me: u32,
+        job: Rc<Job>,
+        share: Share,
+    ) -> Result<JobWorker<S>, AllocError>
+        requires input { (files : List File) × IsRankInput S.conversions job.value files me share }
+        ensures stands { IfOk result (λ worker. (files : List File) → IsRankInput S.conversions job.value files me share
+            → IsJobWorker S.semiring S.conversions worker (beginning (job_protocol S.semiring S.conversions job.value files) (length (phases job.value)) me)) }
     {
-        JobWorker {
+        let shapes = shapes(alloc, &job)?;
+        let phases = phases(alloc, &job)?;
+        let book = PlanBook::new(alloc, me, job.ranks);
+        Ok(JobWorker {
             alloc,
             me,
             job,
             share,
+            shapes,
+            phase_count: phases.len() as u32,
+            phases,
             values: Vec::new(alloc),
-        }
+            book,
+            gathering: None,
+            counts: EntryCounts::new(alloc),
+        })
     }
 
     /// The pieces of the values that were made, by the number of the value.
@@ -49,6 +89,192 @@ impl<S: Scalar> JobWorker<S> {
         ensures values { result.now ≡ self.now.values.items }
     {
         &self.values
+    }
+
+    /// How many entries the letter has that another rank sent in a phase, if it came. It takes no memory.
+    pub(crate) fn entries_from(&self, phase: u32, from: u32) -> Option<u64>
+        ensures count { result ≡ count_of self.now.counts (record { phase = phase; from = from; to = self.now.me }) }
+    {
+        self.counts.get(Name {
+            phase,
+            from,
+            to: self.me,
+        })
+    }
+
+    /// Finishes the phase before this one, if there is one.
+    fn finish_last(&mut self, phase: u32) -> Result<(), AllocError>
+        requires { (s : Stage) × (IsJobWorker S.semiring S.conversions self.old s × CanEnter s phase) }
+        ensures { OnOk result ((s : Stage) → IsJobWorker S.semiring S.conversions self.old s → CanEnter s phase → IsLeaving S.semiring S.conversions self.new s) }
+    {
+        if phase == 0 {
+            return Ok(());
+        }
+        let about = self.phases[phase as usize - 1].about;
+        finish_phase::<S>(self.alloc, &mut self.book, &self.job, about)
+    }
+
+    /// The phase of this number; at the end none.
+    fn next_phase(&self, phase: u32) -> Option<Phase>
+        ensures { result ≡ slice_get self.now.phases.items phase }
+    {
+        self.phases.get(phase as usize).copied()
+    }
+
+    /// How many values come before that of this phase; at the end all.
+    fn count_before(&self, phase: u32) -> usize
+        requires { length self.now.shapes.items ≡ value_count self.now.job.value }
+        ensures { result ≡ count_before self.now.job.value (slice_get self.now.phases.items phase) }
+    {
+        match self.phases.get(phase as usize) {
+            Some(next) => next.value,
+            None => self.shapes.len(),
+        }
+    }
+
+    /// Makes the values before that of this phase; at the end all.
+    fn make(&mut self, phase: u32) -> Result<(), AllocError>
+        requires { (s : Stage) × (IsLeaving S.semiring S.conversions self.old s × CanEnter s phase) }
+        ensures { OnOk result ((s : Stage) → IsLeaving S.semiring S.conversions self.old s → CanEnter s phase → IsReady S.semiring S.conversions self.new s) }
+    {
+        let count = self.count_before(phase);
+        let arrived = arrived_vector(self.gathering.take());
+        make_values(
+            self.alloc,
+            &mut self.values,
+            arrived,
+            &self.job,
+            self.me,
+            &self.share,
+            count,
+        )
+    }
+
+    /// Enters a phase that is about a map or a plan.
+    fn enter_plan(&mut self, phase: u32, about: About) -> Result<Entered, AllocError>
+        requires ready { (s : Stage) × (IsReady S.semiring S.conversions self.old s × CanEnter s phase) }
+        requires is { about_at self.old.job.value phase ≡ Some about }
+        requires plain { sends_numbers about ≡ false }
+        ensures posts { IfOk result (λ e. (s : Stage) → IsReady S.semiring S.conversions self.old s → CanEnter s phase → e.posts.items ≡ names_from s.protocol.names phase s.rank) }
+        ensures awaits { IfOk result (λ e. (s : Stage) → IsReady S.semiring S.conversions self.old s → CanEnter s phase → e.awaits.items ≡ names_to s.protocol.names phase s.rank) }
+        ensures enters { OnOk result ((s : Stage) → IsReady S.semiring S.conversions self.old s → CanEnter s phase → IsJobWorker S.semiring S.conversions self.new (entering s)) }
+    {
+        enter_phase::<S>(self.alloc, &mut self.book, &self.job, about)?;
+        let ranks = self.job.ranks;
+        Ok(Entered {
+            posts: names_to_others(self.alloc, ranks, phase, self.me)?,
+            awaits: names_from_others(self.alloc, ranks, phase, self.me)?,
+        })
+    }
+
+    /// Enters a phase that sends the numbers of value k.
+    fn enter_numbers(
+        &mut self,
+        phase: u32,
+        k: usize,
+        pool: &mut Pool,
+    ) -> Result<Entered, AllocError>
+        requires ready { (s : Stage) × (IsReady S.semiring S.conversions self.old s × CanEnter s phase) }
+        requires next { (next : Phase) × ((slice_get (phases self.old.job.value) phase ≡ Some next) × ((next.value ≡ k) × (sends_numbers next.about ≡ true))) }
+        ensures posts { IfOk result (λ e. (s : Stage) → IsReady S.semiring S.conversions self.old s → CanEnter s phase → e.posts.items ≡ names_from s.protocol.names phase s.rank) }
+        ensures awaits { IfOk result (λ e. (s : Stage) → IsReady S.semiring S.conversions self.old s → CanEnter s phase → e.awaits.items ≡ names_to s.protocol.names phase s.rank) }
+        ensures enters { OnOk result ((s : Stage) → IsReady S.semiring S.conversions self.old s → CanEnter s phase → IsJobWorker S.semiring S.conversions self.new (entering s)) }
+        ensures same_leases { leases pool.new ≡ leases pool.old }
+    {
+        let gathering = begin_gathering(
+            self.alloc,
+            &self.job,
+            self.me,
+            &self.shapes,
+            &self.book,
+            &self.values,
+            k,
+            pool,
+        )?;
+        let ranks = self.job.ranks;
+        let entered = row_letters(self.alloc, ranks, phase, self.me, &gathering.arriving)?;
+        self.gathering = Some(gathering);
+        Ok(entered)
+    }
+
+    /// Enters the phase, or the end.
+    fn begin(&mut self, phase: u32, pool: &mut Pool) -> Result<Entered, AllocError>
+        requires { (s : Stage) × (IsReady S.semiring S.conversions self.old s × CanEnter s phase) }
+        ensures posts { IfOk result (λ e. (s : Stage) → IsReady S.semiring S.conversions self.old s → CanEnter s phase → e.posts.items ≡ names_from s.protocol.names phase s.rank) }
+        ensures awaits { IfOk result (λ e. (s : Stage) → IsReady S.semiring S.conversions self.old s → CanEnter s phase → e.awaits.items ≡ names_to s.protocol.names phase s.rank) }
+        ensures enters { OnOk result ((s : Stage) → IsReady S.semiring S.conversions self.old s → CanEnter s phase → IsJobWorker S.semiring S.conversions self.new (entering s)) }
+        ensures same_leases { leases pool.new ≡ leases pool.old }
+    {
+        match self.next_phase(phase) {
+            None => Ok(Entered {
+                posts: Vec::new(self.alloc),
+                awaits: Vec::new(self.alloc),
+            }),
+            Some(next) => match next.about {
+                About::SendNumbers { .. } => self.enter_numbers(phase, next.value, pool),
+                about => self.enter_plan(phase, about),
+            },
+        }
+    }
+
+    /// Packs the letter of words.
+    fn pack_words(&self, name: Name, pool: &mut Pool) -> Result<Lease, AllocError>
+        requires sends { (s : Stage) × (IsJobWorker S.semiring S.conversions self.now s × CanSend s name) }
+        requires none { self.now.gathering ≡ None }
+        ensures fresh { IfOk result (λ lease. leases pool.old lease ≡ None) }
+        ensures ok { IfOk result (λ lease. (s : Stage) → IsJobWorker S.semiring S.conversions self.now s → CanSend s name
+            → leases pool.new ≡ with_lease (leases pool.old) lease (s.protocol.content name s.absorbed)) }
+        ensures err { OnErr result (leases pool.new ≡ leases pool.old) }
+    {
+        let phase = self.phases[name.phase as usize];
+        let words = phase_words::<S>(self.alloc, &self.book, &self.job, phase.about, name.to)?;
+        lease_words(phase.kind, &words, pool)
+    }
+
+    /// Packs the letter of the rows that are sent.
+    fn pack_rows(
+        &self,
+        gathering: &Gathering<S>,
+        name: Name,
+        pool: &mut Pool,
+    ) -> Result<Lease, AllocError>
+        requires sends { (s : Stage) × (IsJobWorker S.semiring S.conversions self.now s × CanSend s name) }
+        requires some { self.now.gathering ≡ Some gathering.now }
+        ensures fresh { IfOk result (λ lease. leases pool.old lease ≡ None) }
+        ensures ok { IfOk result (λ lease. (s : Stage) → IsJobWorker S.semiring S.conversions self.now s → CanSend s name
+            → leases pool.new ≡ with_lease (leases pool.old) lease (s.protocol.content name s.absorbed)) }
+        ensures err { OnErr result (leases pool.new ≡ leases pool.old) }
+    {
+        let source = &self.values[gathering.source];
+        gathering.arriving.pack(source, name.to, pool)
+    }
+
+    /// Absorbs a letter of words.
+    fn absorb_words(&mut self, name: Name, bytes: &[u8]) -> Result<(), AllocError>
+        requires absorbs { (s : Stage) × (IsJobWorker S.semiring S.conversions self.old s × CanAbsorb s name bytes.now) }
+        requires none { self.old.gathering ≡ None }
+        ensures { OnOk result ((s : Stage) → IsJobWorker S.semiring S.conversions self.old s → CanAbsorb s name bytes.now
+            → IsJobWorker S.semiring S.conversions self.new (absorbing s ((name, bytes.now) ∷ []))) }
+    {
+        let words = words_of_letter(self.alloc, bytes)?;
+        let about = self.phases[name.phase as usize].about;
+        absorb_words::<S>(&mut self.book, &self.job, about, name.from, &words)?;
+        self.counts.put(name, entries_of_letter(bytes))
+    }
+
+    /// Absorbs a letter of rows.
+    fn absorb_rows(&mut self, name: Name, bytes: &[u8]) -> Result<(), AllocError>
+        requires absorbs { (s : Stage) × (IsJobWorker S.semiring S.conversions self.old s × CanAbsorb s name bytes.now) }
+        requires some { is_some self.old.gathering ≡ true }
+        ensures { OnOk result ((s : Stage) → IsJobWorker S.semiring S.conversions self.old s → CanAbsorb s name bytes.now
+            → IsJobWorker S.semiring S.conversions self.new (absorbing s ((name, bytes.now) ∷ []))) }
+    {
+        let Some(mut gathering) = self.gathering.take() else {
+            unreachable!();
+        };
+        gathering.arriving.absorb(name.from, bytes)?;
+        self.gathering = Some(gathering);
+        self.counts.put(name, entries_of_letter(bytes))
     }
 }
 
@@ -58,22 +284,27 @@ impl<S: Scalar> Worker for JobWorker<S> {
     ghost stands = { λ w s. IsJobWorker S.semiring S.conversions w s };
 
     fn phases(&self) -> u32 {
-        0
+        self.phase_count
     }
 
-    fn enter(&mut self, _phase: u32, _pool: &mut Pool) -> Result<Entered, AllocError> {
-        self.values = own_values(self.alloc, &self.job, self.me, &self.share)?;
-        Ok(Entered {
-            posts: Vec::new(self.alloc),
-            awaits: Vec::new(self.alloc),
-        })
+    fn enter(&mut self, phase: u32, pool: &mut Pool) -> Result<Entered, AllocError> {
+        self.finish_last(phase)?;
+        self.make(phase)?;
+        self.begin(phase, pool)
     }
 
-    fn pack(&self, _name: Name, _pool: &mut Pool) -> Result<Lease, AllocError> {
-        unreachable!()
+    fn pack(&self, name: Name, pool: &mut Pool) -> Result<Lease, AllocError> {
+        match &self.gathering {
+            Some(gathering) => self.pack_rows(gathering, name, pool),
+            None => self.pack_words(name, pool),
+        }
     }
 
-    fn absorb(&mut self, _name: Name, _bytes: &[u8]) -> Result<(), AllocError> {
-        unreachable!()
+    fn absorb(&mut self, name: Name, bytes: &[u8]) -> Result<(), AllocError> {
+        if self.gathering.is_some() {
+            self.absorb_rows(name, bytes)
+        } else {
+            self.absorb_words(name, bytes)
+        }
     }
 }

@@ -2,6 +2,7 @@ pub mod Letterless
 pub mod Alike
 pub mod CompleteRuns
 pub mod LocalValues
+pub mod GivenValues
 pub mod Overs
 pub mod Writables
 pub mod RankResults
@@ -10,3 +11,5 @@ pub mod PiecesShown
 pub mod Ran
 pub mod Begun
 pub mod WeighedJobs
+pub mod LetterLines
+pub mod LetterCounts

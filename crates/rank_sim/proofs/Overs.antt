@@ -1,27 +1,26 @@
--- Jobs without letters: a cell of some value is over exactly where one of some rank's piece is.
+-- Once all letters came, a cell of some value is over exactly where one of some rank's piece is.
 use Rattle.std.proofs.Common.{◌≡◌, ℕ, zero, suc, ◌+◌, ◌<◌, ◌≤◌, inl, inr, Bool, true, false, cond, ◌||◌, ltb, List, Option, None, Some, refl, sym, ap, ◌∙◌, subst, arith}
 use Rattle.std.specs.Prelude.{is_some}
 use Rattle.std.specs.List.{list_any}
 use Rattle.std.proofs.lemmas.Bool.{cases_lt, ltb-true, or_left, or_right}
-use Rattle.scalar_laws.specs.Semiring.{Semiring, IsSemiring}
-use Rattle.scalar_laws.specs.Conversions.{Conversions, AreConversions}
+use Rattle.scalar_laws.specs.Semiring.{Semiring}
+use Rattle.scalar_laws.specs.Conversions.{Conversions}
 use Rattle.tables.specs.Indices.{count_from}
 use Rattle.tables.proofs.Places.{list_any-cells_of}
-use Rattle.map_core.specs.Layouts.{owner}
-use Rattle.map_core.proofs.Owners.{owner-has, owner-none, owner-total}
 use Rattle.mm_text.specs.Reading.{File}
-use Rattle.peers.specs.Protocols.{Letter}
+use Rattle.outside.specs.declared.name.Name.{Name}
+use Rattle.outside.specs.MailRoom.{names_of}
+use Rattle.peers.specs.Protocols.{Letter, stands_in}
 use Rattle.model_defs.specs.declared.job.Job.{Job}
 use Rattle.model_defs.specs.declared.shape.Shape.{Shape}
 use Rattle.model_defs.specs.declared.shape.Sort.{Sort}
 use Rattle.model_defs.specs.declared.shape.Sort.TheVariants.{Vector, Parts, Matrix, Split}
-use Rattle.model_defs.specs.Eval.{Pick, eval}
 use Rattle.model_defs.specs.Fitting.{IsFitting}
-use Rattle.model_defs.specs.Laws.{IsFormed, IsOwned, has_cells}
-use Rattle.model_defs.specs.Local.{IsLocalJob}
-use Rattle.model_defs.specs.Machine.{piece}
+use Rattle.model_defs.specs.Laws.{IsFormed, has_cells}
+use Rattle.model_defs.specs.Letters.{letter_names}
+use Rattle.model_defs.specs.Machine.{gathered_value, piece}
 use Rattle.model_defs.specs.Makers.{value_count}
-use Rattle.model_defs.specs.Maps.{has_index, is_mapped, layout_of, size_of}
+use Rattle.model_defs.specs.Maps.{has_index, is_mapped, size_of}
 use Rattle.model_defs.specs.Pieces.{Value, has_row}
 use Rattle.model_defs.specs.Plans.{width_of}
 use Rattle.model_defs.specs.Shapes.{is_by_rank, is_dense, shape}
@@ -33,8 +32,7 @@ use Rattle.model_defs.proofs.Filters.{both}
 use Rattle.model_defs.proofs.Mapped.{mapped-below}
 use Rattle.model_defs.proofs.Rows.{list-mapped}
 use Rattle.rank_values.specs.Vectors.{is_over_there}
-use Rattle.rank_core.proofs.LocalJobs.{piece-beyond}
-use Rattle.rank_sim.proofs.LocalValues.{formed-is, owned-is, piece-is}
+use Rattle.rank_sim.proofs.GivenValues.{formed-is, owned-is, owning-rank, piece-beyond, piece-is}
 
 any-from : (f : ℕ → Bool) (n k i : ℕ) → n ≤ i → i < n + k → f i ≡ true → list_any f (count_from n k) ≡ true
 any-from f n zero i l m e = absurd (omega arith)
@@ -79,40 +77,18 @@ module _ {S : Type 0} (F : Conversions S) where
           let in_sizes = formed.within d p i j e in
           (in_sizes.0, subst (λ b. j < cond b s.columns (size_of job s.domain)) (sym d) in_sizes.1)
 
-  -- a row of a whole value that has a place stands in the list of a rank
-  pub owning-rank : (job : Job) (s : Shape) (v : Value S) → IsFormed job s v → IsOwned job s → is_by_rank s.sort ≡ false → (p i j : ℕ) → is_some (v p i j) ≡ true
-      → (q : ℕ) × (q < job.ranks) × (has_index job s.rows q i ≡ true)
-  owning-rank job s v formed owned whole p i j e = by (owner (layout_of job s.rows) i) refl
-    where
-      cells : (sort : Sort) → is_by_rank sort ≡ false → is_dense sort ≡ true → has_cells job s sort p i ≡ is_mapped job s.rows i
-      cells Vector a b = refl
-      cells Parts a b = absurd (cc)
-      cells Matrix a b = absurd (cc)
-      cells Split a b = absurd (cc)
-
-      nobody : owner (layout_of job s.rows) i ≡ None → (b : Bool) → is_dense s.sort ≡ b → ⊥
-      nobody o true d =
-          let cell = both (has_cells job s s.sort p i) (ltb j s.columns) (sym (formed.dense d p i j) ∙ e) in
-          let unmapped : is_mapped job s.rows i ≡ false = (owner-none (layout_of job s.rows) i).0 o in
-          let bad : true ≡ false = sym cell.0 ∙ cells s.sort whole d ∙ unmapped in
-          cc
-      nobody o false d =
-          let some = owner-total (layout_of job s.rows) i (owned.total d) (formed.within d p i j e).0 in
-          let bad : true ≡ false = sym some ∙ ap is_some o in
-          cc
-
-      by : (o : Option ℕ) → owner (layout_of job s.rows) i ≡ o → (q : ℕ) × (q < job.ranks) × (has_index job s.rows q i ≡ true)
-      by (Some q) o = (q, owned.below i q o, owner-has (layout_of job s.rows) i q o)
-      by None o = absurd (nobody o (is_dense s.sort) refl)
-
-module _ {S : Type 0} {R : Semiring S} (L : IsSemiring R) {F : Conversions S} (FL : AreConversions F) (job : Job) (files : List File) (valid : IsValid job) (fit : IsFitting job files) (local : IsLocalJob job) (pick : Pick) (g : List Letter) where
+module _ {S : Type 0} (R : Semiring S) (F : Conversions S) (job : Job) (files : List File) (valid : IsValid job) (fit : IsFitting job files) (g : List Letter)
+    (came : (y : Name) → stands_in (letter_names job files) y ≡ true → stands_in (names_of g) y ≡ true) where
   abbrev e : ℕ → Value S
-  e = eval R F job files pick
+  e v = gathered_value R F job files v g
+
+  formed : (v : ℕ) → v < value_count job → IsFormed job (shape job v) (e v)
+  formed v l = formed-is R F job files valid fit g came v l
 
   value-over : (v p i j : ℕ) → v < value_count job → p < part_count F job (shape job v).sort → is_over_there F (e v p i j) ≡ true → is_any_over F job e ≡ true
   value-over v p i j l m over =
       let x = there-over F (e v p i j) over in
-      let low = within-formed F job valid (shape job v) (e v) (formed-is L FL job files valid fit local pick v l) p i j (ap is_some x.1) in
+      let low = within-formed F job valid (shape job v) (e v) (formed v l) p i j (ap is_some x.1) in
       any-from (λ k. is_value_over F job (shape job k) (e k)) 0 (value_count job) v (omega arith) (omega arith)
       (any-from (λ q. any_over F (size_of job (shape job v).rows) (width_of job (shape job v)) (e v q)) 0 (part_count F job (shape job v).sort) p (omega arith) (omega arith)
       ((list_any-cells_of F.is_over (size_of job (shape job v).rows) (width_of job (shape job v)) (e v p)).1 (i, j, x.0, low.0, low.1, x.1, x.2)))
@@ -129,14 +105,13 @@ module _ {S : Type 0} {R : Semiring S} (L : IsSemiring R) {F : Conversions S} (F
     where
       of_value : v < value_count job → is_any_over F job e ≡ true
       of_value low =
-          let kept = kept-over F (has_row job (shape job v) p i) (e v p i j) (sym (ap (is_over_there F) (λ t. piece-is L FL job files valid fit local pick g v p low m t i j)) ∙ over) in
+          let kept = kept-over F (has_row job (shape job v) p i) (e v p i j) (sym (ap (is_over_there F) (λ t. piece-is R F job files valid fit g came v p low m t i j)) ∙ over) in
           by (is_by_rank (shape job v).sort) refl kept.1
         where
           by : (b : Bool) → is_by_rank (shape job v).sort ≡ b → is_over_there F (e v p i j) ≡ true → is_any_over F job e ≡ true
           by true r o = value-over v p i j low (subst (λ b. p < cond b job.ranks 1) (sym r) m) o
           by false r o =
-              let formed = formed-is L FL job files valid fit local pick v low in
-              value-over v 0 i j low (subst (λ b. 0 < cond b job.ranks 1) (sym r) (omega arith)) (ap (is_over_there F) (λ t. sym (formed.whole r p) t i j) ∙ o)
+              value-over v 0 i j low (subst (λ b. 0 < cond b job.ranks 1) (sym r) (omega arith)) (ap (is_over_there F) (λ t. sym ((formed v low).whole r p) t i j) ∙ o)
 
   -- a cell of a value is one of a rank's piece
   pub over-piece : is_any_over F job e ≡ true → (p : ℕ) × (v : ℕ) × (i : ℕ) × (j : ℕ) × (p < job.ranks) × (is_over_there F (piece R F job files p v g i j) ≡ true)
@@ -152,12 +127,11 @@ module _ {S : Type 0} {R : Semiring S} (L : IsSemiring R) {F : Conversions S} (F
         where
           piece-at : (q : ℕ) → q < job.ranks → has_row job (shape job v) q i ≡ true → e v q i j ≡ Some x → is_over_there F (piece R F job files q v g i j) ≡ true
           piece-at q n row same =
-              ap (is_over_there F) ((λ t. piece-is L FL job files valid fit local pick g v q l n t i j) ∙ (λ t. cond (row t) (same t) None)) ∙ over
+              ap (is_over_there F) ((λ t. piece-is R F job files valid fit g came v q l n t i j) ∙ (λ t. cond (row t) (same t) None)) ∙ over
 
           by : (b : Bool) → is_by_rank (shape job v).sort ≡ b → p < cond b job.ranks 1
               → (p : ℕ) × (v : ℕ) × (i : ℕ) × (j : ℕ) × (p < job.ranks) × (is_over_there F (piece R F job files p v g i j) ≡ true)
           by true r n = (p, v, i, j, n, piece-at p n (ap (λ b. b || has_index job (shape job v).rows p i) r) is)
           by false r n =
-              let formed = formed-is L FL job files valid fit local pick v l in
-              let q = owning-rank F job (shape job v) (e v) formed (owned-is L FL job files valid fit local v l r) r p i j (ap is_some is) in
-              (q.0, v, i, j, q.1, piece-at q.0 q.1 (ap (λ b. b || has_index job (shape job v).rows q.0 i) r ∙ q.2) ((λ t. (formed.whole r q.0 ∙ sym (formed.whole r p)) t i j) ∙ is))
+              let q = owning-rank job (shape job v) (e v) (formed v l) (owned-is R F job files valid fit g came v l r) r p i j (ap is_some is) in
+              (q.0, v, i, j, q.1, piece-at q.0 q.1 (ap (λ b. b || has_index job (shape job v).rows q.0 i) r ∙ q.2) ((λ t. ((formed v l).whole r q.0 ∙ sym ((formed v l).whole r p)) t i j) ∙ is))

@@ -105,6 +105,8 @@ module _ {S : Type 0} (R : Semiring S) (F : Conversions S) (job : Job) (files : 
     all-finished input = record {
       input = input;
       many = (p.at_rest refl).ranks;
+      comes = p.course.comes;
+      run = p.course.run;
       stands = (p.at_rest refl).rests;
       finished = λ k l. record {
         worked = refl;

@@ -1,4 +1,4 @@
--- The sheets of a job without letters can be written.
+-- The sheets of a job can be written.
 use Rattle.std.proofs.Common.{◌≡◌, ℕ, zero, suc, ◌+◌, ◌*◌, ◌<◌, ◌≤◌, inl, inr, Bool, true, false, not, cond, ◌||◌, ◌&&◌, eqb, ltb, List, [], ◌∷◌, ◌++◌, map, filter, length, get_or, Option, None, Some, Ok, All, if◌then◌else◌, lt-ltb, refl, sym, ap, ◌∙◌, subst, arith, length-append, nat_lt}
 use Rattle.std.specs.Prelude.{is_some}
 use Rattle.std.specs.List.{concat, flat_map, list_all}
@@ -9,7 +9,7 @@ use Rattle.std.proofs.lemmas.List.Elements.{All-append, All-map, All-weaker}
 use Rattle.std.proofs.lemmas.List.Sums.{AllPass-from_list_all}
 use Rattle.std.proofs.lemmas.List.Kept.{AllPairs-cons}
 use Rattle.scalar_laws.specs.Semiring.{Semiring, IsSemiring}
-use Rattle.scalar_laws.specs.Conversions.{Conversions, AreConversions}
+use Rattle.scalar_laws.specs.Conversions.{Conversions}
 use Rattle.tables.specs.declared.Cell.{Cell}
 use Rattle.tables.specs.Tables.{AreInOrder, Table, all_cells, cell_if, cells_of, stands_before}
 use Rattle.tables.specs.Indices.{count_from, stands}
@@ -19,7 +19,9 @@ use Rattle.tables.proofs.Orders.{before-to}
 use Rattle.map_core.proofs.Members.{stands-filter}
 use Rattle.mm_text.specs.Reading.{File}
 use Rattle.mm_text.specs.Written.{ArePlacesInOrder, ArePlacesWithin, IsBefore}
-use Rattle.peers.specs.Protocols.{Letter, firsts}
+use Rattle.outside.specs.declared.name.Name.{Name}
+use Rattle.outside.specs.MailRoom.{names_of}
+use Rattle.peers.specs.Protocols.{Letter, firsts, stands_in}
 use Rattle.model_defs.specs.declared.job.Job.{Job}
 use Rattle.model_defs.specs.declared.job.MapForm.{MapForm}
 use Rattle.model_defs.specs.declared.job.MapForm.TheVariants.{Uniform, Blocks, Cyclic, Lists}
@@ -32,8 +34,9 @@ use Rattle.model_defs.specs.declared.sheets.Sheet.{Sheet}
 use Rattle.model_defs.specs.Eval.{Pick, eval}
 use Rattle.model_defs.specs.Fitting.{IsFitting}
 use Rattle.model_defs.specs.Laws.{IsFormed, has_cells}
+use Rattle.model_defs.specs.Letters.{letter_names}
 use Rattle.model_defs.specs.Limits.{IsSmallForm, most_columns, most_indices}
-use Rattle.model_defs.specs.Local.{IsLocalJob}
+use Rattle.model_defs.specs.Machine.{gathered_value}
 use Rattle.model_defs.specs.Makers.{Maker, GivenVector, GivenParts, GivenMatrix, Made, gives_value, maker_of, makers, value_count}
 use Rattle.model_defs.specs.Maps.{is_mapped, lists_of, map_at, no_map, size_of}
 use Rattle.model_defs.specs.Pieces.{Value}
@@ -43,14 +46,16 @@ use Rattle.model_defs.specs.Sheets.{array_sheet, column_cells, coordinate_sheet,
 use Rattle.model_defs.specs.ShowText.{shown_cell}
 use Rattle.model_defs.specs.Turns.{Each}
 use Rattle.model_defs.specs.Valid.{IsValid, IsValidMaker}
+use Rattle.model_defs.proofs.AllRows.{row_laws}
 use Rattle.model_defs.proofs.KnownShapes.{shape-of-made}
+use Rattle.model_defs.proofs.Whole.{are_before}
 use Rattle.rank_sim.specs.declared.ends.End.{End}
 use Rattle.rank_sim.specs.declared.ends.End.TheVariants as end
 use Rattle.rank_sim.specs.Runs.{ShowsEnd, gathered_values}
 use Rattle.rank_sim.specs.Writable.{HasPlacesInOrder, HasWritableSheets, IsWholeArray, IsWritable}
 use Rattle.rank_sim.specs.Ranks.{PrintsBelow}
-use Rattle.rank_sim.proofs.Alike.{all-sheets-alike, prints-known}
-use Rattle.rank_sim.proofs.LocalValues.{formed-is, gathered-is-eval}
+use Rattle.rank_sim.proofs.Alike.{prints-known}
+use Rattle.rank_sim.proofs.GivenValues.{formed-is}
 
 -- ---- sizes
 
@@ -258,18 +263,24 @@ module _ {S : Type 0} (F : Conversions S) where
       (step-writable job values valid formed s (l 0 s (omega arith))) (steps-writable job values valid formed ss (λ k d m. l (suc k) d (omega arith)))
 
 -- the sheets of the values on the global data
-pub sheets-writable : {S : Type 0} {R : Semiring S} (L : IsSemiring R) {F : Conversions S} (FL : AreConversions F) (job : Job) (files : List File) (pick : Pick) → IsValid job → IsFitting job files → IsLocalJob job
+pub sheets-writable : {S : Type 0} {R : Semiring S} (L : IsSemiring R) (F : Conversions S) (job : Job) (files : List File) (pick : Pick) → IsValid job → IsFitting job files
     → All IsWritable (sheets_of F job (eval R F job files pick))
-sheets-writable {R = R} L {F = F} FL job files pick valid fit local =
-    steps-writable F job (eval R F job files pick) valid (λ k l. formed-is L FL job files valid fit local pick k l) job.steps (prints-known job valid)
+sheets-writable {R = R} L F job files pick valid fit =
+    steps-writable F job (eval R F job files pick) valid
+    (λ k l. (are_before L F job files (row_laws L job files valid fit) pick (value_count job) (omega arith)).formed k l) job.steps (prints-known job valid)
+
+-- and those of the values that the ranks have, once all letters came
+pub given-writable : {S : Type 0} (R : Semiring S) (F : Conversions S) (job : Job) (files : List File) (g : List Letter) → IsValid job → IsFitting job files
+    → ((y : Name) → stands_in (letter_names job files) y ≡ true → stands_in (names_of g) y ≡ true)
+    → All IsWritable (sheets_of F job (λ v. gathered_value R F job files v g))
+given-writable R F job files g valid fit came =
+    steps-writable F job (λ v. gathered_value R F job files v g) valid (λ k l. formed-is R F job files valid fit g came k l) job.steps (prints-known job valid)
 
 -- so are those that a run shows
-pub writable-end : {S : Type 0} {R : Semiring S} (L : IsSemiring R) {F : Conversions S} (FL : AreConversions F) (job : Job) (files : List File) (letters : List Letter) → IsValid job → IsFitting job files → IsLocalJob job
+pub writable-end : {S : Type 0} (R : Semiring S) (F : Conversions S) (job : Job) (files : List File) (letters : List Letter) → IsValid job → IsFitting job files
+    → ((y : Name) → stands_in (letter_names job files) y ≡ true → stands_in (names_of (firsts letters)) y ≡ true)
     → (x : End) → ShowsEnd F job files (gathered_values R F job files letters) x → HasWritableSheets (Ok x)
-writable-end {R = R} L {F = F} FL job files letters valid fit local (end.Done outcome) shows =
-    subst (All IsWritable)
-    (sym (shows.0.sheets ∙ all-sheets-alike F job valid.some (gathered_values R F job files letters) (eval R F job files (λ v i j. 0)) valid
-    (λ v p l m. gathered-is-eval L FL job files valid fit local (λ v i j. 0) (firsts letters) v p l m)))
-    (sheets-writable L FL job files (λ v i j. 0) valid fit local)
-writable-end L FL job files letters valid fit local end.Over shows = tt
-writable-end L FL job files letters valid fit local (end.Undelivered names) shows = tt
+writable-end R F job files letters valid fit came (end.Done outcome) shows =
+    subst (All IsWritable) (sym shows.0.sheets) (given-writable R F job files (firsts letters) valid fit came)
+writable-end R F job files letters valid fit came end.Over shows = tt
+writable-end R F job files letters valid fit came (end.Undelivered names) shows = tt

@@ -1,8 +1,11 @@
 -- What holds of every run.
-use Rattle.std.specs.Prelude.{◌≡◌, IsTrue, All, Result, List, [], ◌∷◌}
+use Rattle.std.specs.Prelude.{◌≡◌, IsTrue, true, All, Result, List, [], ◌∷◌}
 use Rattle.scalar_laws.specs.Semiring.{Semiring}
 use Rattle.scalar_laws.specs.Conversions.{Conversions}
 use Rattle.mm_text.specs.Reading.{File}
+use Rattle.outside.specs.MailRoom.{names_of}
+use Rattle.peers.specs.Protocols.{Letter}
+use Rattle.peers.specs.Runs.{has_all}
 use Rattle.schedule.specs.declared.order.Entry.{Entry}
 use Rattle.schedule.specs.declared.order.Order.{Order}
 use Rattle.schedule.specs.declared.order.Order.TheVariants as order
@@ -18,7 +21,7 @@ use Rattle.model_defs.specs.Sheets.{sheets_of}
 use Rattle.model_defs.specs.Valid.{IsValid}
 use Rattle.rank_sim.specs.declared.ends.End.{End}
 use Rattle.rank_sim.specs.declared.ends.RunFault.{RunFault}
-use Rattle.rank_sim.specs.Runs.{IsRan, Shows}
+use Rattle.rank_sim.specs.Runs.{IsRan, Shows, gathered_values}
 use Rattle.rank_sim.specs.Writable.{IsWritable}
 
 -- Over an honest wire a complete run shows the values on the global data. Of numbers that meet in a cell one is picked by the
@@ -60,8 +63,16 @@ LocalRunsShowEval R F =
     → IsValid job → IsFitting job files → IsLocalJob job
     → IsRan R F job files order begun now answer → (pick : Pick) → Shows F job files (eval R F job files pick) answer
 
--- The sheets of the values of such a job can be written.
-abbrev pub LocalSheetsAreWritable : {S : Type 0} → Semiring S → Conversions S → Type 0
-LocalSheetsAreWritable R F =
-    (job : Job) (files : List File) (pick : Pick) → IsValid job → IsFitting job files → IsLocalJob job
-    → All IsWritable (sheets_of F job (eval R F job files pick))
+-- ---- sheets
+
+-- The sheets of the values of every job can be written, whatever is picked.
+abbrev pub SheetsAreWritable : {S : Type 0} → Semiring S → Conversions S → Type 0
+SheetsAreWritable R F =
+    (job : Job) (files : List File) (pick : Pick) → IsValid job → IsFitting job files → All IsWritable (sheets_of F job (eval R F job files pick))
+
+-- So can those of the values that the ranks have of whatever letters, once all of them came: no wire need be honest.
+abbrev pub GatheredSheetsAreWritable : {S : Type 0} → Semiring S → Conversions S → Type 0
+GatheredSheetsAreWritable R F =
+    (job : Job) (files : List File) (letters : List Letter) → IsValid job → IsFitting job files
+    → has_all (job_protocol R F job files) (names_of letters) ≡ true
+    → All IsWritable (sheets_of F job (gathered_values R F job files letters))

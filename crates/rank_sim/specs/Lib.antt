@@ -4,3 +4,4 @@ pub mod Writable
 pub mod Laws
 pub mod Ranks
 pub mod Stated
+pub mod LetterLines

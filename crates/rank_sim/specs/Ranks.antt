@@ -7,32 +7,36 @@ use Rattle.scalar_laws.specs.Conversions.{Conversions}
 use Rattle.tables.specs.declared.Cell.{Cell}
 use Rattle.tables.specs.Tables.{found}
 use Rattle.mm_text.specs.Reading.{File}
+use Rattle.outside.specs.MailRoom.{names_of}
 use Rattle.peers.specs.Peers.{at_rest}
 use Rattle.peers.specs.Protocols.{Letter, firsts}
+use Rattle.peers.specs.Runs.{EachComes, IsRun}
 use Rattle.message_play.specs.Plays.{StandsAt, given_to}
 use Rattle.model_defs.specs.declared.job.Job.{Job}
 use Rattle.model_defs.specs.declared.job.Step.{Step}
 use Rattle.model_defs.specs.declared.job.Step.TheVariants as step
 use Rattle.model_defs.specs.Fitting.{IsFitting}
-use Rattle.model_defs.specs.Local.{IsLocalJob}
 use Rattle.model_defs.specs.Machine.{job_protocol, piece}
 use Rattle.model_defs.specs.Numbers.{HaveNumbers}
 use Rattle.model_defs.specs.Valid.{IsValid}
+use Rattle.vector_jobs.specs.VectorJobs.{IsVectorJob}
 use Rattle.rank_core.specs.declared.rank.Rank.{Rank}
 use Rattle.rank_core.specs.Ranks.{IsFinished, IsRank}
 
--- A valid job and files that fit it, whose integers have numbers of the kind. By now it is a job without letters.
+-- A valid job and files that fit it, whose integers have numbers of the kind. By now it is a job of vectors.
 pub record IsRunInput {S : Type 0} (F : Conversions S) (job : Job) (files : List File) : Type 0 where
   pub valid : IsValid job
-  pub local : IsLocalJob job
+  pub vectors : IsVectorJob job
   pub fitting : IsFitting job files
   pub numbers : HaveNumbers F job files
 
--- The ranks of the job, each of which has worked, and was given all letters to it, of these.
+-- The ranks of the job, each of which has worked, and was given all letters to it, of these. They are a run of the job's letters.
 pub record AreFinished {S : Type 0} (R : Semiring S) (F : Conversions S) (job : Job) (files : List File) (letters : List Letter)
     (ranks : List (Rank S)) : Type 0 where
   pub input : IsRunInput F job files
   pub many : length ranks ≡ job.ranks
+  pub comes : EachComes (job_protocol R F job files) [] (names_of letters)
+  pub run : IsRun (job_protocol R F job files) letters
   pub stands : (p : ℕ) → p < job.ranks
       → StandsAt (IsRank R F) ranks p (at_rest (job_protocol R F job files) p (given_to p (firsts letters)))
   pub finished : (p : ℕ) → p < job.ranks → IsFinished (at_rest (job_protocol R F job files) p (given_to p (firsts letters)))

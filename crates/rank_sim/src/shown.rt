@@ -2,18 +2,17 @@
 ghost use Rattle.std.specs.Prelude.{◌≡◌, ◌<◌, ◌++◌, true, List, Ok, IfOk, OnOk};
 ghost use Rattle.mm_text.specs.Reading.{File};
 ghost use Rattle.peers.specs.Protocols.{Letter};
-ghost use Rattle.model_defs.specs.Local.{IsLocalJob};
 ghost use Rattle.model_defs.specs.Makers.{value_count};
 ghost use Rattle.model_defs.specs.Shapes.{shape};
 ghost use Rattle.model_defs.specs.Sheets.{sheets_by, sheets_of, step_sheets};
-ghost use Rattle.model_defs.specs.Traffic.{letter_lines};
 ghost use Rattle.rank_sim.specs.Ranks.{AreFinished, HaveFinished, PrintsBelow};
 ghost use Rattle.rank_sim.specs.Runs.{IsOutcome, ShowsEnd, gathered_values, is_complete};
 
+use crate::letters::letter_lines;
 use crate::ranks::{any_over, pieces_of};
 use crate::{End, Outcome};
 use job_sheets::value_sheets;
-use model_defs::{Job, LetterLine, Sheet, Step};
+use model_defs::{Job, Sheet, Step};
 use phase_list::phase_lines;
 use rank_core::Rank;
 use scalar_laws::Scalar;
@@ -81,13 +80,6 @@ fn all_sheets<S: Scalar + Drop>(
     Ok(sheets)
 }
 
-/// The lines of the letters of a job without letters: there are none, since such a job has no phase.
-fn lines_without_letters(alloc: Global) -> Vec<LetterLine>
-    ensures lines { (job : Job) (files : List File) → IsLocalJob job → result.items ≡ letter_lines job files }
-{
-    Vec::new(alloc)
-}
-
 /// What a job shows whose ranks are finished. `Err` means that memory ran out.
 fn outcome<S: Scalar + Drop>(
     alloc: Global,
@@ -98,10 +90,12 @@ fn outcome<S: Scalar + Drop>(
     ensures shows { IfOk result (λ outcome. (files : List File) (letters : List Letter) → AreFinished S.semiring S.conversions job.now files letters ranks.now
         → IsOutcome S.conversions job.now files (gathered_values S.semiring S.conversions job.now files letters) outcome) }
 {
+    let phases = phase_lines(alloc, job)?;
+    let letters = letter_lines(alloc, job, ranks, phases.as_slice())?;
     Ok(Outcome {
         sheets: all_sheets(alloc, job, ranks)?,
-        phases: phase_lines(alloc, job)?,
-        letters: lines_without_letters(alloc),
+        phases,
+        letters,
     })
 }
 

@@ -13,6 +13,8 @@
 
 mod fault;
 mod messages;
+#[cfg(test)]
+mod move_tests;
 mod output;
 mod refusals;
 #[cfg(test)]
@@ -23,6 +25,8 @@ mod run_tests;
 mod show;
 mod shown;
 mod system;
+#[cfg(test)]
+mod test_runs;
 #[cfg(test)]
 mod tests;
 mod top_call;

@@ -2,10 +2,12 @@
 ghost use Rattle.std.specs.Prelude.{map};
 ghost use Rattle.mm_text.specs.Reading.{file_of};
 ghost use Rattle.model_defs.specs.Fitting.{IsFitting};
-ghost use Rattle.model_defs.specs.Local.{IsLocalJob};
 ghost use Rattle.model_defs.specs.Valid.{IsValid};
+ghost use Rattle.vector_jobs.specs.VectorJobs.{IsVectorJob};
 
-use outside::{MailRoom, MemFiles};
+use crate::move_tests::to_cyclic;
+use crate::test_runs::files_of;
+use outside::MailRoom;
 use rank_sim::{End, run_with};
 use run_input::{Given, read_given};
 use run_words::OrderWord;
@@ -17,7 +19,7 @@ use std::test::Fail;
 /// The values that a job prints, all numbers being residues below 1000.
 fn printed_residues(alloc: Global, given: &Given) -> Result<Vec<i128>, AllocError>
     requires valid { IsValid given.now.job.value }
-    requires local { IsLocalJob given.now.job.value }
+    requires vectors { IsVectorJob given.now.job.value }
     requires fitting { IsFitting given.now.job.value (map file_of given.now.files.items) }
 {
     let mut values = Vec::new(alloc);
@@ -38,19 +40,28 @@ fn printed_residues(alloc: Global, given: &Given) -> Result<Vec<i128>, AllocErro
     Ok(values)
 }
 
+/// The residues that a job of x prints, x being 1, -1 and 1000.
+fn residues_of(alloc: Global, job: &str) -> Result<Vec<i128>, AllocError> {
+    let x = "%%MatrixMarket matrix array integer general\n3 1\n1\n-1\n1000\n";
+    let mut files = files_of(alloc, job, x, "")?;
+    match read_given(alloc, &mut files, "j.toml", OrderWord::Fifo) {
+        Ok(given) => printed_residues(alloc, &given),
+        Err(_) => Ok(Vec::new(alloc)),
+    }
+}
+
 #[test]
 fn a_job_runs_on_residues(rt: HostRuntime) -> Result<(), Fail> {
-    let alloc = rt.alloc();
     let job =
         "ranks = 2\n[[map]]\nname = \"u\"\nkind = \"uniform\"\nsize = 3\n[[vector]]\nname = \"x\"\nmap = \"u\"\nfile = \"x.mtx\"\n[[do]]\nop = \"update\"\nname = \"z\"\nx = \"x\"\ny = \"x\"\nalpha = 2\n[[do]]\nop = \"print\"\nvalue = \"z\"\n";
-    let x = "%%MatrixMarket matrix array integer general\n3 1\n1\n-1\n1000\n";
-    let mut files = MemFiles::new(alloc);
-    files.put("j.toml", job.as_bytes())?;
-    files.put("x.mtx", x.as_bytes())?;
-    let values = match read_given(alloc, &mut files, "j.toml", OrderWord::Fifo) {
-        Ok(given) => printed_residues(alloc, &given)?,
-        Err(_) => Vec::new(alloc),
-    };
+    let values = residues_of(rt.alloc(), job)?;
     assert_eq!(rt; values.as_slice(), [3, 997, 0].as_slice());
+    Ok(())
+}
+
+#[test]
+fn residues_are_moved(rt: HostRuntime) -> Result<(), Fail> {
+    let values = residues_of(rt.alloc(), &to_cyclic(rt.alloc())?)?;
+    assert_eq!(rt; values.as_slice(), [1, 999, 0].as_slice());
     Ok(())
 }

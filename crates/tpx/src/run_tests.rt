@@ -1,63 +1,11 @@
 //! Whole runs of jobs, over files, a wire and sinks in memory.
-use crate::top_call::top;
-use outside::{MailRoom, MemFiles, MemSink};
-use std::alloc::{AllocError, Global};
-use std::process::Abort;
+use crate::test_runs::{X, expect, run_job, run_on};
+use outside::{MailRoom, MemFiles};
 use std::test::Fail;
 
 /// A job that takes x from itself, twice x less x.
 const JOB: &str =
     "ranks = 2\n[[map]]\nname = \"u\"\nkind = \"uniform\"\nsize = 3\n[[vector]]\nname = \"x\"\nmap = \"u\"\nfile = \"x.mtx\"\n[[do]]\nop = \"update\"\nname = \"z\"\nx = \"x\"\ny = \"x\"\nalpha = 2\nbeta = -1\n[[do]]\nop = \"print\"\nvalue = \"z\"\n";
-
-const X: &str = "%%MatrixMarket matrix array integer general\n3 1\n1\n10\n100\n";
-
-/// What a run left.
-#[derive(Drop)]
-struct Ran {
-    status: u8,
-    out: MemSink,
-    err: MemSink,
-}
-
-/// Runs the words over these files and this room for the output.
-fn run_over(
-    alloc: Global,
-    texts: &[&str],
-    files: &mut MemFiles,
-    room: u64,
-) -> Result<Ran, AllocError> {
-    let mut words = Vec::new(alloc);
-    for text in texts {
-        words.push(String::from_str(alloc, text)?)?;
-    }
-    let mut wire = MailRoom::new(alloc);
-    let mut out = MemSink::new(alloc, room)?;
-    let mut err = MemSink::new(alloc, 1000)?;
-    let status = top(alloc, &words, files, &mut wire, &mut out, &mut err);
-    Ok(Ran { status, out, err })
-}
-
-/// Runs the words over a job, x, and a schedule.
-fn run_job(
-    alloc: Global,
-    texts: &[&str],
-    job: &str,
-    x: &str,
-    schedule: &str,
-) -> Result<Ran, AllocError> {
-    let mut files = MemFiles::new(alloc);
-    files.put("j.toml", job.as_bytes())?;
-    files.put("x.mtx", x.as_bytes())?;
-    files.put("s", schedule.as_bytes())?;
-    run_over(alloc, texts, &mut files, 1000)
-}
-
-/// The run ended with this status, this text and this message.
-fn expect(rt: &impl Abort, ran: &Ran, status: u8, text: &[u8], message: &[u8]) {
-    assert_eq!(rt; ran.status, status);
-    assert_eq!(rt; ran.out.bytes(), text);
-    assert_eq!(rt; ran.err.bytes(), message);
-}
 
 #[test]
 fn a_vector_is_updated_with_itself_in_every_order(rt: HostRuntime) -> Result<(), Fail> {
@@ -141,13 +89,25 @@ fn reads_and_writes_may_fail(rt: HostRuntime) -> Result<(), Fail> {
     let alloc = rt.alloc();
     let mut files = MemFiles::new(alloc);
     files.put("j.toml", JOB.as_bytes())?;
-    let ran = run_over(alloc, &["run", "j.toml"], &mut files, 1000)?;
+    let ran = run_on(
+        alloc,
+        &["run", "j.toml"],
+        &mut files,
+        &mut MailRoom::new(alloc),
+        1000,
+    )?;
     expect(&rt, &ran, 3, b"", b"tpx: cannot read x.mtx\n");
     files.put("x.mtx", X.as_bytes())?;
     let words = ["run", "j.toml", "--schedule", "none"];
-    let ran = run_over(alloc, &words, &mut files, 1000)?;
+    let ran = run_on(alloc, &words, &mut files, &mut MailRoom::new(alloc), 1000)?;
     expect(&rt, &ran, 3, b"", b"tpx: cannot read none\n");
-    let ran = run_over(alloc, &["run", "j.toml"], &mut files, 10)?;
+    let ran = run_on(
+        alloc,
+        &["run", "j.toml"],
+        &mut files,
+        &mut MailRoom::new(alloc),
+        10,
+    )?;
     expect(&rt, &ran, 4, &X.as_bytes()[..10], b"tpx: cannot write\n");
     Ok(())
 }

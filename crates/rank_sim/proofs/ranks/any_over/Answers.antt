@@ -30,12 +30,12 @@ returns-then-any_over g c =
     let there : slice_get c.args.ranks.now idx ≡ Some c.rank-item.result = slice_get-get_or c.args.ranks.now idx c.rank-item.result c.loop-rank-test.true ∙ ap (λ x. Some x) (sym c.rank-item.is) in
     record {
       over = λ job files letters all.
-          some-over job files letters c.args.ranks.now all g.met.S.Scalar.conversion_laws g.met.S.Scalar.laws idx c.rank-item.result there (c.any_over.ensures.some c.if-any_over.true);
+          some-over job files letters c.args.ranks.now all g.met.S.Scalar.conversion_laws idx c.rank-item.result there (c.any_over.ensures.some c.if-any_over.true);
     }
 
 pub returns : goal.returns
 returns g c = record {
   over = λ job files letters all.
-      none-over job files letters c.args.ranks.now all g.met.S.Scalar.conversion_laws g.met.S.Scalar.laws
+      none-over job files letters c.args.ranks.now all g.met.S.Scalar.conversion_laws
       (λ k rank at. let within = slice_get_within c.args.ranks.now k rank at in c.loop-rank.invariant k rank (let past = c.loop-rank-test.false in omega arith) at);
 }

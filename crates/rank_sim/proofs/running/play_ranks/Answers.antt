@@ -1,10 +1,11 @@
-use Rattle.std.proofs.Common.{rules, ◌∙◌, Ok, Err, sym, ap, subst}
-use contract.BorrowLft.{⊑_meet, ⊑_static}
+use Rattle.std.proofs.Common.{rules, ◌∙◌, Ok, Err, sym, ap, subst, append-nil}
+use contract.BorrowLft.{⊑_meet}
 use Rattle.std.proofs.lemmas.Result.{err_from_is_err_and}
 use Rattle.message_play.specs.Plays.{IsPlayed, wire_state}
 use Rattle.model_defs.specs.Machine.{job_protocol}
 use Rattle.rank_core.specs.Ranks.{IsRank}
 use Rattle.rank_sim.specs.Runs.{IsRan}
+use Rattle.rank_sim.proofs.Finished.{all-came}
 use Rattle.rank_sim.proofs.Ran.{all-finished, ran-complete, ran-fault, ran-left}
 use Rattle.rank_sim.proofs.Writables.{writable-end}
 use Rattle.rank_sim.proofs.running.play_ranks.Goals as goal
@@ -13,12 +14,7 @@ pub play-requires : goal.play-requires
 play-requires g c κs lives =
     -- a rank lives as long as the numbers that it holds
     let own = lives.0 in
-    let none = ⊑_static _ in
-    let values = ⊑_meet _ _ _ (⊑_meet _ _ _ (⊑_meet _ _ _ own none) none) none in
-    let worker = ⊑_meet _ _ _ (⊑_meet _ _ _ (⊑_meet _ _ _ (⊑_meet _ _ _ (⊑_meet _ _ _ own none) values) none) none) none in
-    let outbox = ⊑_meet _ _ _ (⊑_meet _ _ _ (⊑_meet _ _ _ own none) worker) none in
-    let phased = ⊑_meet _ _ _ (⊑_meet _ _ _ (⊑_meet _ _ _ (⊑_meet _ _ _ (⊑_meet _ _ _ own none) worker) none) outbox) none in
-    (⊑_meet _ _ _ (⊑_meet _ _ _ own none) phased, (search rules, (c.requires.1.1.0, (c.requires.1.1.1.0, c.requires.1.1.1.1.1))))
+    (simp append-nil (search (⊑_meet, own) fits 100000 depth 40), (search rules, (c.requires.1.1.0, (c.requires.1.1.1.0, c.requires.1.1.1.1.1))))
 
 pub returns-in_err-play-clause-ran : goal.returns-in_err-play-clause-ran
 returns-in_err-play-clause-ran g c = λ files input is.
@@ -63,7 +59,7 @@ returns-in_ok-end_of-in-Complete-clause-writable g c =
     let played = subst (λ x. IsPlayed (IsRank R F) (job_protocol R F c.args.job.now input.0) c.args.order.now (state_of c.args.wire.now) (state_of c.play.new.wire) c.play.new.peers (Ok x)) c.in-Complete.is
     (subst (λ P. IsPlayed (IsRank R F) P c.args.order.now (state_of c.args.wire.now) (state_of c.play.new.wire) c.play.new.peers (Ok c.in_ok-play.field-0)) input.1.1 c.in_ok-play.ensures.played) in
     let finished = all-finished R F c.args.job.now input.0 c.args.order.now (state_of c.args.wire.now) (state_of c.play.new.wire) c.play.new.peers played input.1.0 in
-    writable-end g.met.S.Scalar.laws g.met.S.Scalar.conversion_laws c.args.job.now input.0 played.letters input.1.0.valid input.1.0.fitting input.1.0.local
+    writable-end R F c.args.job.now input.0 played.letters input.1.0.valid input.1.0.fitting (all-came c.args.job.now input.0 played.letters c.play.new.peers finished)
     c.in_ok-end_of-in-Complete.field-0 (c.in_ok-end_of-in-Complete.ensures.shows input.0 played.letters finished)
 
 pub returns-in-Left-clause-ran : goal.returns-in-Left-clause-ran

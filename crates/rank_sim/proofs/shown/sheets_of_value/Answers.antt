@@ -1,7 +1,6 @@
 use Rattle.std.proofs.Common.{◌∙◌, ap}
 use Rattle.job_sheets.specs.Values.{sheets_of_pieces}
-use Rattle.rank_core.proofs.Finished.{if-ok}
-use Rattle.rank_sim.proofs.PiecesShown.{pieces-shown}
+use Rattle.rank_sim.proofs.PiecesShown.{if-ok, pieces-shown}
 use Rattle.rank_sim.proofs.shown.sheets_of_value.Goals as goal
 
 pub returns : goal.returns

@@ -1,9 +1,9 @@
-use Rattle.std.proofs.Common.{◌≡◌, ◌<◌, ◌≤◌, false, length, get_or, Some, inl, inr, subst, sym, ap, ◌∙◌, arith}
+use Rattle.std.proofs.Common.{◌≡◌, length, Some, inl, inr, sym, ap, ◌∙◌, arith}
 use Rattle.std.specs.Prelude.{slice_get}
 use Rattle.std.proofs.lemmas.Bool.{cases_lt}
 use Rattle.std.proofs.lemmas.Option.{slice_get-get_or, same_Some}
 use Rattle.rank_values.specs.Vectors.{global_table, is_over_there}
-use Rattle.rank_core.proofs.Finished.{none-over, some-over}
+use Rattle.rank_core.proofs.FinishedRanks.{none-over, some-over}
 use Rattle.rank_core.proofs.rank.Rank.any_over.Goals as goal
 
 pub returns-then-is_vector_over-clause-some : goal.returns-then-is_vector_over-clause-some
@@ -11,7 +11,7 @@ returns-then-is_vector_over-clause-some g c = λ yes s rank done.
     let items = c.values-vector-items.result.now in
     let idx = c.loop-vector.vector-index in
     let at : slice_get items idx ≡ Some c.vector-item.result = slice_get-get_or items idx c.vector-item.result c.loop-vector-test.true ∙ ap (λ x. Some x) (sym c.vector-item.is) in
-    some-over g.S.Scalar.semiring g.S.Scalar.conversions g.met.S.Scalar.conversion_laws c.worker.result.now s (c.worker.ensures.peer s rank done.worked) idx c.vector-item.result
+    some-over g.S.Scalar.semiring g.S.Scalar.conversions g.met.S.Scalar.conversion_laws c.worker.result.now s (c.worker.ensures.peer s rank done.worked) done idx c.vector-item.result
     (ap (λ xs. slice_get xs idx) (sym c.values-vector-items.ensures.values) ∙ at)
     (c.is_vector_over.ensures.some c.if-is_vector_over.true)
 
@@ -32,6 +32,6 @@ pub returns-clause-none : goal.returns-clause-none
 returns-clause-none g c = λ no_one s rank done.
     let same = c.values-vector-items.ensures.values in
     let many : length c.values-vector-items.result.now ≡ length c.worker.result.now.values.items = ap length same in
-    none-over g.S.Scalar.semiring g.S.Scalar.conversions g.met.S.Scalar.conversion_laws c.worker.result.now s (c.worker.ensures.peer s rank done.worked)
+    none-over g.S.Scalar.semiring g.S.Scalar.conversions g.met.S.Scalar.conversion_laws c.worker.result.now s (c.worker.ensures.peer s rank done.worked) done
     c.loop-vector.vector-index (let past = c.loop-vector-test.false in omega arith)
     (λ k vector low at. c.loop-vector.invariant k vector low (ap (λ xs. slice_get xs k) same ∙ at))

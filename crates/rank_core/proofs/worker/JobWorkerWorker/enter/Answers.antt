@@ -1,13 +1,9 @@
-use Rattle.std.proofs.Common.{◌≡◌, sym, ◌∙◌}
-use Rattle.rank_core.proofs.Finished.{none-sent}
+use Rattle.rank_core.proofs.Clauses.{on-ok}
 use Rattle.rank_core.proofs.worker.JobWorkerWorker.enter.Goals as goal
 
-pub returns-clause-posts : goal.returns-clause-posts
-returns-clause-posts g c = λ s stands can.
-    c.new.ensures.items
-    ∙ sym (none-sent g.S.Scalar.semiring g.S.Scalar.conversions c.args.self.now.job.value stands.files s.protocol c.args._phase s.rank stands.input.local stands.protocol).0
+pub make-requires : goal.make-requires
+make-requires g c = (c.requires.0, (c.in_ok-finish_last.ensures c.requires.0 c.requires.1.0 c.requires.1.1, c.requires.1.1))
 
-pub returns-clause-awaits : goal.returns-clause-awaits
-returns-clause-awaits g c = λ s stands can.
-    c.new-2.ensures.items
-    ∙ sym (none-sent g.S.Scalar.semiring g.S.Scalar.conversions c.args.self.now.job.value stands.files s.protocol c.args._phase s.rank stands.input.local stands.protocol).1
+pub returns-clause-enters : goal.returns-clause-enters
+returns-clause-enters g c =
+    on-ok c.begin.result c.begin.ensures.enters (λ enters s stands can. enters s (c.in_ok-make.ensures s (c.in_ok-finish_last.ensures s stands can) can) can)

@@ -1,0 +1,215 @@
+-- A rank's book after a plan was made.
+use Rattle.std.proofs.Common.{◌≡◌, ℕ, suc, ◌<◌, ◌≤◌, ◌⊎◌, inl, inr, Bool, true, false, cond, not, eqb, List, [], ◌∷◌, Some, All, filter, length, refl, sym, ap, subst, ◌∙◌, arith}
+use Rattle.std.specs.Option.{is_some}
+use Rattle.std.proofs.lemmas.Bool.{cases_lt, eqb-true}
+use Rattle.std.proofs.lemmas.List.{length-map}
+use Rattle.std.proofs.lemmas.List.Elements.{filter_passes}
+use Rattle.std.proofs.lemmas.List.FromFn.{get_or-map-range_with_len, length-map-range_with_len}
+use Rattle.scalar_laws.specs.Semiring.{Semiring}
+use Rattle.scalar_laws.specs.Conversions.{Conversions}
+use Rattle.map_core.specs.Classes.{index_at, indices_at, permuted, place, places}
+use Rattle.map_core.specs.Layouts.{stands}
+use Rattle.map_core.specs.Plans.{PlanLists}
+use Rattle.mm_text.specs.Reading.{File}
+use Rattle.model_defs.specs.declared.job.Job.{Job}
+use Rattle.model_defs.specs.declared.phase.About.{About}
+use Rattle.model_defs.specs.declared.phase.About.TheVariants.{SharePlan}
+use Rattle.model_defs.specs.declared.phase.Plan.{Plan}
+use Rattle.model_defs.specs.declared.phase.Plan.TheVariants.{ImportPlan}
+use Rattle.model_defs.specs.Maps.{list_of}
+use Rattle.model_defs.specs.Plans.{lacking, owns, remote}
+use Rattle.model_defs.specs.Transfers.{same_plan}
+use Rattle.rank_plans.specs.Answers.{lacked_in}
+use Rattle.rank_plans.specs.Books.{Book, lacking_of, made_of, own_of, slices, told_of}
+use Rattle.rank_plans.specs.Tasks.{import_of}
+use Rattle.rank_stages.specs.JobStages.{about_at}
+use Rattle.rank_stages.specs.OwnerLaws.{plan_about}
+use Rattle.rank_stages.proofs.Once.{same-self}
+use Rattle.rank_stages.proofs.Owners.{lists_are_told, phases_are_left}
+use Rattle.rank_stages.proofs.Prepared.{same-is}
+use Rattle.rank_transfers.specs.JobRows.{IsJobImport}
+use Rattle.vector_jobs.specs.VectorPhases.{IsImport}
+use Rattle.plan_phases.specs.BookStages.{IsBookStage, IsMadeImport}
+use Rattle.plan_phases.specs.BookCalls.{IsLeavingBook}
+use Rattle.plan_phases.proofs.WordsStage.{own-remote, plan-begun, plan-import}
+
+-- none lacks what it owns
+pub none-own : (test : ℕ → Bool) (xs : List ℕ) → filter test (filter (λ g. not (test g)) xs) ≡ []
+none-own test [] = refl
+none-own test (x ∷ xs) = go (test x) refl (none-own test xs)
+  where
+    go : (b : Bool) → test x ≡ b → filter test (filter (λ g. not (test g)) xs) ≡ [] → filter test (cond (not b) (x ∷ filter (λ g. not (test g)) xs) (filter (λ g. not (test g)) xs)) ≡ []
+    go true e rest = rest
+    go false e rest = ap (λ b. cond b (x ∷ filter test (filter (λ g. not (test g)) xs)) (filter test (filter (λ g. not (test g)) xs))) e ∙ rest
+
+-- the plan that is made is that of the job's import
+pub import-is : (job : Job) (files : List File) (source target p : ℕ) (own told : ℕ → List ℕ) → p < job.ranks → job.ranks ≤ 32
+    → ((q : ℕ) → own q ≡ remote job files (ImportPlan source target) p q)
+    → ((q : ℕ) → q < job.ranks → told q ≡ remote job files (ImportPlan source target) q p)
+    → IsJobImport job files source target p (import_of p job.ranks (list_of job source p) (list_of job target p) own told)
+import-is job files source target p own told known few owns tells =
+    record {
+      is_plan = record {
+        me = known;
+        ranks = few;
+        permuted = sym (length-map (indices_at to both) (place from) ∙ length-map both (index_at to));
+        exports = length-map-range_with_len (λ q. places from (told q)) 0 job.ranks;
+        remotes = length-map-range_with_len (λ q. places to (own q)) 0 job.ranks;
+      };
+      ranks = refl;
+      same = refl;
+      permute_to = refl;
+      permute_from = refl;
+      exports = λ q l. get_or-map-range_with_len (λ q. places from (told q)) 0 job.ranks q q [] l (omega arith) ∙ ap (places from) (tells q l);
+      remotes = λ q l. get_or-map-range_with_len (λ q. places to (own q)) 0 job.ranks q q [] l (omega arith) ∙ ap (places to) (owns q);
+    }
+  where
+    from : List ℕ
+    from = list_of job source p
+
+    to : List ℕ
+    to = list_of job target p
+
+    both : List ℕ
+    both = permuted from to
+
+module _ {S : Type 0} (R : Semiring S) (F : Conversions S) (job : Job) (files : List File) (old : Book) (about : About) (e : IsLeavingBook R F job files old about) where
+  abbrev n : ℕ
+  n = e.phase
+
+  abbrev k : IsBookStage R F job files old e.view e.stage
+  k = e.kept
+
+  abbrev p : ℕ
+  p = e.stage.rank
+
+  low : n < e.stage.entered
+  low = let here = e.here in omega (arith, here)
+
+  -- ---- where no plan was shared, the plans of all phases were made
+
+  pub made-before : ((plan : Plan) → about ≡ SharePlan plan → ⊥) → (i : ℕ) (plan : Plan) → about_at job i ≡ Some (SharePlan plan) → i < e.stage.entered → is_some (made_of old plan) ≡ true
+  made-before other i plan at l = by (cases_lt (suc i) e.stage.entered)
+    where
+      by : (suc i < e.stage.entered) ⊎ (e.stage.entered ≤ suc i) → is_some (made_of old plan) ≡ true
+      by (inl a) = k.finished i plan at a
+      by (inr a) =
+          let same : i ≡ n = (let here = e.here in omega (arith, a, l, here)) in
+          let two : Some about ≡ Some (SharePlan plan) = sym e.is ∙ ap (about_at job) (sym same) ∙ at in
+          let is : about ≡ SharePlan plan = cc in
+          absurd (other plan is)
+
+  -- ---- where one was
+
+  pub share-import : (plan : Plan) → about ≡ SharePlan plan → IsImport job plan
+  share-import plan is = plan-import R F job files old e.view e.stage k n about e.is low plan (ap plan_about is)
+
+  pub share-ends : (source target : ℕ) → about ≡ SharePlan (ImportPlan source target) → (source < length job.maps) × (target < length job.maps)
+  share-ends source target is =
+      let import = share-import (ImportPlan source target) is in
+      let both : ImportPlan source target ≡ ImportPlan import.source import.target = import.is in
+      let one : import.source ≡ source = cc in
+      let other : import.target ≡ target = cc in
+      (subst (λ m. m < length job.maps) one import.known_source, subst (λ m. m < length job.maps) other import.known_target)
+
+  module _ (source target : ℕ) (is : about ≡ SharePlan (ImportPlan source target)) where
+    abbrev plan : Plan
+    plan = ImportPlan source target
+
+    at : about_at job n ≡ Some (SharePlan plan)
+    at = e.is ∙ ap Some is
+
+    owns-remote : (q : ℕ) → own_of old plan q ≡ remote job files plan p q
+    owns-remote = own-remote R F job files old e.view e.stage k n about e.is low plan is
+
+    told-remote : (q : ℕ) → q < job.ranks → told_of old plan q ≡ remote job files plan q p
+    told-remote q l = by (eqb q p) refl
+      where
+        by : (b : Bool) → eqb q p ≡ b → told_of old plan q ≡ remote job files plan q p
+        by true f =
+            let same = eqb-true q p f in
+            ap (told_of old plan) same ∙ k.none_told plan
+            ∙ sym (none-own (owns job files plan p) (list_of job target p))
+            ∙ (λ t. remote job files plan (sym same t) p)
+        by false f =
+            (λ t. sym k.told t plan q)
+            ∙ lists_are_told R F job files e.view e.stage n q plan k.stage at (phases_are_left e.stage n e.stage.entered e.all_absorbed (omega arith) low) l f
+
+    pub share-lacking : lacking_of old plan ≡ lacked_in (list_of job source old.me) (list_of job target old.me)
+    share-lacking =
+        (plan-begun R F job files old e.view e.stage k n about e.is low plan (ap plan_about is)).lacked
+        ∙ (λ t. lacking job files plan (sym k.me t))
+
+    pub share-none : own_of old plan old.me ≡ []
+    share-none = owns-remote old.me ∙ (λ t. remote job files plan p (k.me t)) ∙ none-own (owns job files plan p) (list_of job target p)
+
+    pub share-held : (q : ℕ) → q < old.ranks → All (λ g. stands g (list_of job source old.me) ≡ true) (told_of old plan q)
+    share-held q l =
+        let known : q < job.ranks = subst (λ P. q < P) k.ranks l in
+        let is_told : remote job files plan q old.me ≡ told_of old plan q = (λ t. remote job files plan q (k.me t)) ∙ sym (told-remote q known) in
+        subst (All (λ g. stands g (list_of job source old.me) ≡ true)) is_told (filter_passes (owns job files plan old.me) (lacking job files plan q))
+
+    module _ (new : Book)
+        (makes : made_of new plan ≡ Some (import_of old.me old.ranks (list_of job source old.me) (list_of job target old.me) (own_of old plan) (told_of old plan)))
+        (others : (o : Plan) → same_plan o plan ≡ false → made_of new o ≡ made_of old o)
+        (stays : slices new ≡ record (slices old) { made = made_of new }) where
+      made-is : (o : Plan) (lists : PlanLists) → made_of new o ≡ Some lists → IsMadeImport job files p o lists
+      made-is o lists f = by (same_plan o plan) refl
+        where
+          by : (b : Bool) → same_plan o plan ≡ b → IsMadeImport job files p o lists
+          by true g =
+              let same : o ≡ plan = same-is o plan g in
+              let made : made_of new plan ≡ Some (import_of p job.ranks (list_of job source p) (list_of job target p) (own_of old plan) (told_of old plan)) =
+              makes ∙ (λ t. Some (import_of (k.me t) (k.ranks t) (list_of job source (k.me t)) (list_of job target (k.me t)) (own_of old plan) (told_of old plan))) in
+              let two : Some (import_of p job.ranks (list_of job source p) (list_of job target p) (own_of old plan) (told_of old plan)) ≡ Some lists = sym made ∙ (λ t. made_of new (sym same t)) ∙ f in
+              let one : import_of p job.ranks (list_of job source p) (list_of job target p) (own_of old plan) (told_of old plan) ≡ lists = cc in
+              record {
+                source = source;
+                target = target;
+                is = same;
+                import = subst (IsJobImport job files source target p) one
+                    (import-is job files source target p (own_of old plan) (told_of old plan) k.stage.within k.valid.limits.ranks owns-remote told-remote);
+              }
+          by false g = k.made o lists (sym (others o g) ∙ f)
+
+      some-made : (o : Plan) → (same_plan o plan ≡ false → is_some (made_of old o) ≡ true) → is_some (made_of new o) ≡ true
+      some-made o old_made = by (same_plan o plan) refl
+        where
+          by : (b : Bool) → same_plan o plan ≡ b → is_some (made_of new o) ≡ true
+          by true g = (λ t. is_some (made_of new (same-is o plan g t))) ∙ ap is_some makes
+          by false g = ap is_some (others o g) ∙ old_made g
+
+      pub share-finished : IsBookStage R F job files new e.view e.stage
+      share-finished = record {
+        valid = k.valid;
+        fitting = k.fitting;
+        vectors = k.vectors;
+        stage = k.stage;
+        me = (λ t. (stays t).me) ∙ k.me;
+        ranks = (λ t. (stays t).ranks) ∙ k.ranks;
+        directory = k.directory ∙ sym (λ t. (stays t).directory);
+        asked = k.asked ∙ sym (λ t. (stays t).asked);
+        owners = k.owners ∙ sym (λ t. (stays t).owners);
+        told = k.told ∙ sym (λ t. (stays t).told);
+        own = k.own;
+        maps = λ i m at l. (λ t. (stays t).map_size m) ∙ k.maps i m at l;
+        only_maps = λ m has. k.only_maps m ((λ t. is_some ((sym stays t).map_size m)) ∙ has);
+        plans = λ i a o at of l. let begun = k.plans i a o at of l in record { size = (λ t. (stays t).size o) ∙ begun.size; lacked = (λ t. (stays t).lacking o) ∙ begun.lacked };
+        only_plans = λ o has. k.only_plans o ((λ t. is_some ((sym stays t).size o)) ∙ has);
+        known = λ i o g at l on. (λ t. (stays t).owners o g) ∙ k.known i o g at l on;
+        none_told = λ o. (λ t. (stays t).told o p) ∙ k.none_told o;
+        made = made-is;
+        finished = λ i o at l. some-made o (λ g. k.finished i o at l);
+      }
+
+      pub share-made : (i : ℕ) (o : Plan) → about_at job i ≡ Some (SharePlan o) → i < e.stage.entered → is_some (made_of new o) ≡ true
+      share-made i o about_o l = some-made o (λ g. by g (cases_lt (suc i) e.stage.entered))
+        where
+          by : same_plan o plan ≡ false → (suc i < e.stage.entered) ⊎ (e.stage.entered ≤ suc i) → is_some (made_of old o) ≡ true
+          by g (inl a) = k.finished i o about_o a
+          by g (inr a) =
+              let same : i ≡ n = (let here = e.here in omega (arith, a, l, here)) in
+              let two : Some (SharePlan plan) ≡ Some (SharePlan o) = sym at ∙ ap (about_at job) (sym same) ∙ about_o in
+              let one : plan ≡ o = cc in
+              let yes : same_plan o plan ≡ true = (λ t. same_plan o (one t)) ∙ same-self o in
+              let bad : ⊥ = cc in absurd bad

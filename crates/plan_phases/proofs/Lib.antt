@@ -1,0 +1,13 @@
+pub mod Begun
+pub mod Passing
+pub mod WordsStage
+pub mod AbsorbedBook
+pub mod FinishedBook
+pub mod WordsSent
+pub mod AbsorbedResults
+pub mod EnteringOrder
+pub mod EnteringViews
+pub mod EnteringMaps
+pub mod EnteringPlans
+pub mod EnteringAnswers
+pub mod EnteringBounds

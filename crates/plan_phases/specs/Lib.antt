@@ -1,0 +1,3 @@
+pub mod BookStages
+pub mod BookCalls
+pub mod Laws

@@ -1,0 +1,3 @@
+pub mod VectorMakers
+pub mod VectorActs
+pub mod VectorLists

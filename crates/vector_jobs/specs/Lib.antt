@@ -1,0 +1,3 @@
+pub mod VectorJobs
+pub mod VectorPhases
+pub mod Laws
