@@ -1,5 +1,6 @@
 //! Weighed numbers.
-ghost use Rattle.std.specs.Prelude.{◌≡◌, true};
+ghost use Rattle.std.specs.Prelude.{◌≡◌, ◌*◌, true, min};
+ghost use Rattle.scalar_laws.specs.Number.{over_weight};
 ghost use Rattle.scalar_laws.specs.Stored.{is_stored};
 
 /// The greatest weight, 2^127 - 1.
@@ -8,6 +9,18 @@ const MAX_WEIGHT: u128 = 170141183460469231731687303715884105727;
 /// The weight that stands for Over, 2^128 - 1. A sum with it exceeds the limit, and so does a
 /// product with it, unless the other weight is 0.
 const OVER_WEIGHT: u128 = 340282366920938463463374607431768211455;
+
+/// The product of two weights, or 2^128 - 1 where it exceeds that. Weights below 2^64 take one multiplication.
+#[inline]
+fn product_of(a: u128, b: u128) -> u128
+    ensures { result ≡ min (a * b) over_weight }
+{
+    if a.max(b) <= u64::MAX as u128 {
+        (a as u64) as u128 * (b as u64) as u128
+    } else {
+        a.saturating_mul(b)
+    }
+}
 
 /// An integer of 128 bits with the sum of the magnitudes that it came from, or Over: more than
 /// the limit of 2^127 - 1 on the weight. Weighed numbers are this project's own.
@@ -85,7 +98,7 @@ impl Weighed {
     pub(crate) fn times(self, other: Weighed) -> Weighed
         ensures { num_of result ≡ times_numbers (num_of self) (num_of other) }
     {
-        let weight = self.weight.saturating_mul(other.weight);
+        let weight = product_of(self.weight, other.weight);
         if weight > MAX_WEIGHT {
             return Weighed::over();
         }
