@@ -113,6 +113,15 @@ module _ {S : Type 0} {R : Semiring S} (L : IsSemiring R) where
         ]
       ]
 
+  -- the first column of a row
+  pub columns-first : (y : Table S) (p : ℕ → Option S) (lid : ℕ) (first sum : S) → y lid 0 ≡ Some first → Some sum ≡ both_or_one R.plus (Some first) (p 0)
+      → (i k : ℕ) → with_place y lid 0 (Some sum) i k ≡ cond ((lid == i) && nat_lt k 1) (both_or_one R.plus (y i k) (p k)) (y i k)
+  columns-first y p lid first sum here new = columns-more y y p lid 0 first sum (λ i k. by i k (lid == i)) here new
+    where
+      by : (i k : ℕ) (b : Bool) → y i k ≡ cond (b && nat_lt k 0) (both_or_one R.plus (y i k) (p k)) (y i k)
+      by i k false = refl
+      by i k true = sym (ap (λ b. cond b (both_or_one R.plus (y i k) (p k)) (y i k)) (le-ltb k 0 (omega arith)))
+
   -- all columns
   pub columns-done : (t y : Table S) (p : ℕ → Option S) (lid n col : ℕ) → n ≤ col
       → ((i k : ℕ) → t i k ≡ cond ((lid == i) && nat_lt k col) (both_or_one R.plus (y i k) (p k)) (y i k)) → ((k : ℕ) → n ≤ k → p k ≡ None)

@@ -28,7 +28,9 @@ pub fn local_apply<S: Scalar>(a: &CrsMatrix<S>, x: &MultiVector<S>, y: &mut Mult
     }
 }
 
-/// Adds the product of one row to an entry of y.
+/// Adds the product of one row to an entry of y. Vectors of one column have a loop of their own, in which an entry's place is its
+/// local index.
+#[inline]
 fn apply_row<S: Scalar>(
     columns: &[u32],
     numbers: &[S],
@@ -45,6 +47,11 @@ fn apply_row<S: Scalar>(
     ensures same_map { y.new.map ≡ y.old.map }
     ensures same_columns { y.new.columns ≡ y.old.columns }
 {
+    if x.columns() == 1 {
+        let sum = row_sum(columns, numbers, x, 0, y.cell(lid, 0));
+        y.set(lid, 0, sum);
+        return;
+    }
     for col in 0..x.columns() {
         let sum = row_sum(columns, numbers, x, col, y.cell(lid, col));
         y.set(lid, col, sum);
@@ -52,6 +59,7 @@ fn apply_row<S: Scalar>(
 }
 
 /// A number and one column of the product of a row.
+#[inline(always)]
 fn row_sum<S: Scalar>(columns: &[u32], numbers: &[S], x: &MultiVector<S>, col: u32, first: S) -> S
     requires ascend { IsAscending columns.now }
     requires within { AreBelow (length x.now.map) columns.now }

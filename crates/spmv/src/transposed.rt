@@ -55,7 +55,8 @@ fn spread_row<S: Scalar>(
     }
 }
 
-/// Adds a number times an entry of x to an entry of y.
+/// Adds a number times an entry of x to an entry of y. In vectors of one column an entry's place is its local index.
+#[inline]
 fn spread_place<S: Scalar>(number: S, x: &MultiVector<S>, lid: u32, y: &mut MultiVector<S>, to: u32)
     requires known { lid < length x.now.map }
     requires there { to < length y.old.map }
@@ -64,6 +65,11 @@ fn spread_place<S: Scalar>(number: S, x: &MultiVector<S>, lid: u32, y: &mut Mult
     ensures same_map { y.new.map ≡ y.old.map }
     ensures same_columns { y.new.columns ≡ y.old.columns }
 {
+    if y.columns() == 1 {
+        let sum = y.cell(to, 0).add(number.mul(x.cell(lid, 0)));
+        y.set(to, 0, sum);
+        return;
+    }
     for col in 0..x.columns() {
         let sum = y.cell(to, col).add(number.mul(x.cell(lid, col)));
         y.set(to, col, sum);
