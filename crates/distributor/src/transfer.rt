@@ -54,10 +54,21 @@ impl Transfer {
         ensures part { OnErr result (IsPartReserved (letter_lengths width plan.exports) pool.old pool.new) }
     {
         reserve_letters(&plan, width, pool)?;
-        Ok(Transfer {
+        Ok(Transfer::for_nums(plan, width))
+    }
+
+    /// The transfer of entries that each have `width` numbers, 1 to 16, by a plan. The letter to each rank has fewer than
+    /// 2^64 bytes. It takes no memory, and no block is reserved: `pack` needs room in the pool that it is given.
+    pub fn for_nums(plan: Plan, width: u32) -> Transfer
+        requires some_width { 1 ≤ width }
+        requires width_limit { width ≤ 16 }
+        requires letters_fit { (q : ℕ) → q < plan.ranks → nums_length (length (export_list plan q)) width < 2 ^ 64 }
+        ensures transfer { result ≡ record { plan = plan; width = Some width } }
+    {
+        Transfer {
             plan,
             width: Some(width),
-        })
+        }
     }
 
     /// The transfer of rows by a plan. It takes no memory.

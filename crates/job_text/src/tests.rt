@@ -1,5 +1,6 @@
 mod keys;
 mod operands;
+mod transfers;
 
 use crate::{ALL, JobFault, TODAY, Unbuilt, read_job, read_job_by};
 use std::alloc::{AllocError, Global};
@@ -50,42 +51,53 @@ fn is(rt: &impl Abort, alloc: Global, text: &str, wanted: &str) -> Result<(), Fa
     Ok(())
 }
 
-/// The text has this answer after a head that is accepted.
-pub fn after(
+/// Each text after the head has the answer that stands beside it, where these words are built.
+fn each_after(
+    rt: &impl Abort,
+    alloc: Global,
+    unbuilt: Unbuilt,
+    head: &str,
+    cases: &[(&str, &str)],
+) -> Result<(), Fail> {
+    for (text, wanted) in cases {
+        let whole = format!(in alloc; "{head}{text}")?;
+        let found = answer(alloc, unbuilt, whole.as_bytes())?;
+        assert_eq!(rt; found.as_str(), *wanted, "after {text}");
+    }
+    Ok(())
+}
+
+/// The same where all words are built.
+pub fn all_after(
     rt: &impl Abort,
     alloc: Global,
     head: &str,
-    text: &str,
-    wanted: &str,
+    cases: &[(&str, &str)],
 ) -> Result<(), Fail> {
-    let whole = format!(in alloc; "{head}{text}")?;
-    is(rt, alloc, whole.as_str(), wanted)
+    each_after(rt, alloc, ALL, head, cases)
 }
 
-/// Today maps, vectors, parts, `move`, `update`, `scale` and `print` are built.
+/// Today maps, vectors, parts, `move`, `import`, `export`, `spread`, `update`, `scale` and `print` are built.
 #[test]
 fn words_of_today(rt: HostRuntime) -> Result<(), Fail> {
     let alloc = rt.alloc();
-    let text = "ranks = 2\nmatrix = []";
-    assert_eq!(rt;
-        answer(alloc, TODAY, text.as_bytes())?.as_str(),
-        "UnknownKey matrix"
-    );
-    let text = "ranks = 2\n[[map]]\nkind = \"cyclic\"";
-    assert_eq!(rt;
-        answer(alloc, TODAY, text.as_bytes())?.as_str(),
-        "Missing map.0.name"
-    );
-    let text = "ranks = 2\n[[do]]\nop = \"move\"";
-    assert_eq!(rt;
-        answer(alloc, TODAY, text.as_bytes())?.as_str(),
-        "Missing do.0.name"
-    );
-    let text = "ranks = 2\n[[do]]\nop = \"import\"";
-    assert_eq!(rt;
-        answer(alloc, TODAY, text.as_bytes())?.as_str(),
-        "WrongKind do.0.op"
-    );
+    let cases = [
+        ("matrix = []", "UnknownKey matrix"),
+        ("[[map]]\nkind = \"cyclic\"", "Missing map.0.name"),
+        ("[[do]]\nop = \"move\"", "Missing do.0.name"),
+        ("[[do]]\nop = \"import\"", "Missing do.0.name"),
+        ("[[do]]\nop = \"export\"", "Missing do.0.name"),
+        ("[[do]]\nop = \"spread\"", "Missing do.0.name"),
+        ("[[do]]\nop = \"update\"", "Missing do.0.name"),
+        ("[[do]]\nop = \"scale\"", "Missing do.0.name"),
+        ("[[do]]\nop = \"print\"", "Missing do.0.value"),
+        ("[[do]]\nop = \"apply\"", "WrongKind do.0.op"),
+        ("[[do]]\nop = \"transpose\"", "WrongKind do.0.op"),
+        ("[[do]]\nop = \"multiply\"", "WrongKind do.0.op"),
+        ("[[do]]\nop = \"add\"", "WrongKind do.0.op"),
+        ("[[do]]\nop = \"assemble\"", "WrongKind do.0.op"),
+    ];
+    each_after(&rt, alloc, TODAY, "ranks = 2\n", &cases)?;
     match read_job(alloc, b"ranks = 2") {
         Ok(job) => assert_eq!(rt; job.ranks, 2),
         Err(fault) => assert_eq!(rt; shown(alloc, &fault)?.as_str(), "Ok"),

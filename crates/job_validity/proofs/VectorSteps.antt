@@ -1,4 +1,4 @@
--- With the words that are built by now a statement moves a value, goes cell by cell, or prints.
+-- With the words that are built by now a statement copies the cells of a value to another map, goes cell by cell, or prints.
 use Rattle.std.proofs.Common.{◌≡◌, ℕ, pos, Bool, true, false, cond, ◌&&◌, Option, Some, None, Ok, refl, subst}
 use Rattle.std.specs.Prelude.{codes, bytes_eq}
 use Rattle.toml.specs.Data.{Members}
@@ -10,8 +10,8 @@ use Rattle.job_text.specs.declared.words.Form.TheVariants as form
 use Rattle.job_text.specs.declared.words.TheConstants.{TODAY}
 use Rattle.job_text.specs.Names.{Text}
 use Rattle.job_text.specs.Known.{Known}
-use Rattle.job_text.specs.Keys.{required, text_of, only_keys, new_name_at, value_at, map_at, integer_at, integer_or}
-use Rattle.job_text.specs.Statements.{can_move, can_update, can_print}
+use Rattle.job_text.specs.Keys.{required, text_of, only_keys, new_name_at, value_at, map_at, mode_at, integer_at, integer_or}
+use Rattle.job_text.specs.Statements.{can_move, can_import, can_export, can_spread, can_update, can_print}
 use Rattle.job_text.specs.Words.{op_named, or_else, transfer_named, cellwise_named, matrix_step_named}
 use Rattle.job_text.specs.Steps.{here, op_at, step_of, step_in}
 use Rattle.vector_jobs.specs.VectorJobs.{IsVectorStep}
@@ -19,6 +19,9 @@ use Rattle.job_validity.proofs.Outcomes.{Holds, bind, found, skip}
 
 abbrev IsVectorOp : Op → Type 0
 IsVectorOp Move = Unit {0}
+IsVectorOp Import = Unit {0}
+IsVectorOp Export = Unit {0}
+IsVectorOp Spread = Unit {0}
 IsVectorOp Update = Unit {0}
 IsVectorOp Scale = Unit {0}
 IsVectorOp Print = Unit {0}
@@ -31,9 +34,12 @@ no false = refl
 none-of : (a b c d : Bool) (w x y z : Op) → cond (a && false) (Some w) (cond (b && false) (Some x) (cond (c && false) (Some y) (cond (d && false) (Some z) None))) ≡ None
 none-of a b c d w x y z = rw (no a, no b, no c, no d) refl
 
-transfer-of : (a b c d : Bool) (o : Op) → cond (a && true) (Some Move) (cond (b && false) (Some Import) (cond (c && false) (Some Export) (cond (d && false) (Some Spread) None))) ≡ Some o → IsVectorOp o
+transfer-of : (a b c d : Bool) (o : Op) → cond (a && true) (Some Move) (cond (b && true) (Some Import) (cond (c && true) (Some Export) (cond (d && true) (Some Spread) None))) ≡ Some o → IsVectorOp o
 transfer-of true b c d o e = let same : Move ≡ o = cc in subst IsVectorOp same tt
-transfer-of false b c d o e = absurd (let none = none-of false b c d Move Import Export Spread in let bad : ⊥ = cc in bad)
+transfer-of false true c d o e = let same : Import ≡ o = cc in subst IsVectorOp same tt
+transfer-of false false true d o e = let same : Export ≡ o = cc in subst IsVectorOp same tt
+transfer-of false false false true o e = let same : Spread ≡ o = cc in subst IsVectorOp same tt
+transfer-of false false false false o e = absurd (cc)
 
 cellwise-of : (a b c d : Bool) (o : Op) → cond a (Some Update) (cond b (Some Scale) (cond (c && false) (Some Add) (cond d (Some Print) None))) ≡ Some o → IsVectorOp o
 cellwise-of true b c d o e = let same : Update ≡ o = cc in subst IsVectorOp same tt
@@ -65,6 +71,15 @@ module _ (k : ℕ) (table : Members) (known : Known) where
   vector-step Move h =
       skip IsVectorStep (new_name_at at table known) _ (λ name. skip IsVectorStep (value_at at table (codes "from") known) _ (λ source. skip IsVectorStep (map_at at table (codes "map") known) _ (λ m.
       skip IsVectorStep (can_move known k source m) (λ t. Ok (step.Move name source m)) (λ t. tt))))
+  vector-step Import h =
+      skip IsVectorStep (new_name_at at table known) _ (λ name. skip IsVectorStep (value_at at table (codes "from") known) _ (λ source. skip IsVectorStep (value_at at table (codes "onto") known) _ (λ onto.
+      skip IsVectorStep (mode_at at table (codes "mode")) _ (λ mode. skip IsVectorStep (can_import known k source onto) (λ t. Ok (step.Import name source onto mode)) (λ t. tt)))))
+  vector-step Export h =
+      skip IsVectorStep (new_name_at at table known) _ (λ name. skip IsVectorStep (value_at at table (codes "from") known) _ (λ source. skip IsVectorStep (value_at at table (codes "onto") known) _ (λ onto.
+      skip IsVectorStep (mode_at at table (codes "mode")) _ (λ mode. skip IsVectorStep (can_export known k source onto) (λ t. Ok (step.Export name source onto mode)) (λ t. tt)))))
+  vector-step Spread h =
+      skip IsVectorStep (new_name_at at table known) _ (λ name. skip IsVectorStep (value_at at table (codes "from") known) _ (λ source. skip IsVectorStep (map_at at table (codes "map") known) _ (λ m.
+      skip IsVectorStep (can_spread known k source m) (λ t. Ok (step.Spread name source m)) (λ t. tt))))
   vector-step Update h =
       skip IsVectorStep (new_name_at at table known) _ (λ name. skip IsVectorStep (value_at at table (codes "x") known) _ (λ x. skip IsVectorStep (value_at at table (codes "y") known) _ (λ y.
       skip IsVectorStep (integer_or at table (codes "alpha") (pos 1)) _ (λ alpha. skip IsVectorStep (integer_or at table (codes "beta") (pos 1)) _ (λ beta.
@@ -74,9 +89,6 @@ module _ (k : ℕ) (table : Members) (known : Known) where
       skip IsVectorStep (integer_at at table (codes "alpha")) (λ alpha. Ok (step.Scale name v alpha)) (λ alpha. tt)))
   vector-step Print h =
       skip IsVectorStep (value_at at table (codes "value") known) _ (λ v. skip IsVectorStep (can_print known k v) (λ t. Ok (step.Print v)) (λ t. tt))
-  vector-step Import h = absurd h
-  vector-step Export h = absurd h
-  vector-step Spread h = absurd h
   vector-step Apply h = absurd h
   vector-step Transpose h = absurd h
   vector-step Multiply h = absurd h

@@ -2,7 +2,8 @@
 //!
 //! `job_text` reads a text as a `Job` of `model_defs`, or refuses it. Here it is shown that each job that it reads is valid:
 //! its names are apart, its sizes within the limits, its maps layouts, and the operands of each statement fit. With the words
-//! that are built by now it is a job of vectors: it has no matrix, and its statements move a value, go cell by cell, or print.
+//! that are built by now it is a job of vectors: it has no matrix, and its statements copy or combine the cells of vectors and
+//! parts, go cell by cell, or print.
 //! The crate has laws alone, and no code that runs. It stands on `job_text`, and on `model_defs` and `vector_jobs`, which say
 //! what valid jobs and jobs of vectors are; what carries out the jobs of texts stands on it.
 //!

@@ -1,5 +1,5 @@
 -- A rank's book after a plan was made.
-use Rattle.std.proofs.Common.{◌≡◌, ℕ, suc, ◌<◌, ◌≤◌, ◌⊎◌, inl, inr, Bool, true, false, cond, not, eqb, List, [], ◌∷◌, Some, All, filter, length, refl, sym, ap, subst, ◌∙◌, arith}
+use Rattle.std.proofs.Common.{◌≡◌, ℕ, suc, ◌<◌, ◌≤◌, ◌⊎◌, inl, inr, Bool, true, false, cond, not, eqb, List, [], ◌∷◌, Some, All, filter, refl, sym, ap, subst, ◌∙◌, arith}
 use Rattle.std.specs.Option.{is_some}
 use Rattle.std.proofs.lemmas.Bool.{cases_lt, eqb-true}
 use Rattle.std.proofs.lemmas.List.{length-map}
@@ -8,30 +8,28 @@ use Rattle.std.proofs.lemmas.List.FromFn.{get_or-map-range_with_len, length-map-
 use Rattle.scalar_laws.specs.Semiring.{Semiring}
 use Rattle.scalar_laws.specs.Conversions.{Conversions}
 use Rattle.map_core.specs.Classes.{index_at, indices_at, permuted, place, places}
-use Rattle.map_core.specs.Layouts.{stands}
 use Rattle.map_core.specs.Plans.{PlanLists}
 use Rattle.mm_text.specs.Reading.{File}
 use Rattle.model_defs.specs.declared.job.Job.{Job}
 use Rattle.model_defs.specs.declared.phase.About.{About}
 use Rattle.model_defs.specs.declared.phase.About.TheVariants.{SharePlan}
 use Rattle.model_defs.specs.declared.phase.Plan.{Plan}
-use Rattle.model_defs.specs.declared.phase.Plan.TheVariants.{ImportPlan}
+use Rattle.model_defs.specs.declared.phase.Plan.TheVariants.{ExportPlan, ImportPlan}
 use Rattle.model_defs.specs.Maps.{list_of}
-use Rattle.model_defs.specs.Plans.{lacking, owns, remote}
+use Rattle.model_defs.specs.Plans.{lacking, owns, rank_list_by, remote}
 use Rattle.model_defs.specs.Transfers.{same_plan}
-use Rattle.rank_plans.specs.Answers.{lacked_in}
-use Rattle.rank_plans.specs.Books.{Book, lacking_of, made_of, own_of, slices, told_of}
-use Rattle.rank_plans.specs.Tasks.{import_of}
+use Rattle.rank_plans.specs.Books.{Book, has_plan, lacking_of, made_of, own_of, slices, told_of}
+use Rattle.rank_plans.specs.Tasks.{export_of, import_of}
 use Rattle.rank_stages.specs.JobStages.{about_at}
 use Rattle.rank_stages.specs.OwnerLaws.{plan_about}
 use Rattle.rank_stages.proofs.Once.{same-self}
 use Rattle.rank_stages.proofs.Owners.{lists_are_told, phases_are_left}
 use Rattle.rank_stages.proofs.Prepared.{same-is}
-use Rattle.rank_transfers.specs.JobRows.{IsJobImport}
-use Rattle.vector_jobs.specs.VectorPhases.{IsImport}
-use Rattle.plan_phases.specs.BookStages.{IsBookStage, IsMadeImport}
+use Rattle.rank_transfers.specs.JobRows.{IsJobExport, IsJobImport}
+use Rattle.vector_jobs.specs.VectorPhases.{IsMapPlan}
+use Rattle.plan_phases.specs.BookStages.{IsBookStage, IsMadePlan}
 use Rattle.plan_phases.specs.BookCalls.{IsLeavingBook}
-use Rattle.plan_phases.proofs.WordsStage.{own-remote, plan-begun, plan-import}
+use Rattle.plan_phases.proofs.WordsStage.{own-remote, plan-begun, plan-maps}
 
 -- none lacks what it owns
 pub none-own : (test : ℕ → Bool) (xs : List ℕ) → filter test (filter (λ g. not (test g)) xs) ≡ []
@@ -73,6 +71,37 @@ import-is job files source target p own told known few owns tells =
     both : List ℕ
     both = permuted from to
 
+-- or of the job's export
+pub export-is : (job : Job) (files : List File) (source target p : ℕ) (own told : ℕ → List ℕ) → p < job.ranks → job.ranks ≤ 32
+    → ((q : ℕ) → own q ≡ remote job files (ExportPlan source target) p q)
+    → ((q : ℕ) → q < job.ranks → told q ≡ remote job files (ExportPlan source target) q p)
+    → IsJobExport job files source target p (export_of p job.ranks (list_of job source p) (list_of job target p) own told)
+export-is job files source target p own told known few owns tells =
+    record {
+      is_plan = record {
+        me = known;
+        ranks = few;
+        permuted = length-map (indices_at from both) (place to) ∙ length-map both (index_at from);
+        exports = length-map-range_with_len (λ q. places from (own q)) 0 job.ranks;
+        remotes = length-map-range_with_len (λ q. places to (told q)) 0 job.ranks;
+      };
+      ranks = refl;
+      same = refl;
+      permute_to = refl;
+      permute_from = refl;
+      exports = λ q l. get_or-map-range_with_len (λ q. places from (own q)) 0 job.ranks q q [] l (omega arith) ∙ ap (places from) (owns q);
+      remotes = λ q l. get_or-map-range_with_len (λ q. places to (told q)) 0 job.ranks q q [] l (omega arith) ∙ ap (places to) (tells q l);
+    }
+  where
+    from : List ℕ
+    from = list_of job source p
+
+    to : List ℕ
+    to = list_of job target p
+
+    both : List ℕ
+    both = permuted to from
+
 module _ {S : Type 0} (R : Semiring S) (F : Conversions S) (job : Job) (files : List File) (old : Book) (about : About) (e : IsLeavingBook R F job files old about) where
   abbrev n : ℕ
   n = e.phase
@@ -101,76 +130,59 @@ module _ {S : Type 0} (R : Semiring S) (F : Conversions S) (job : Job) (files : 
 
   -- ---- where one was
 
-  pub share-import : (plan : Plan) → about ≡ SharePlan plan → IsImport job plan
-  share-import plan is = plan-import R F job files old e.view e.stage k n about e.is low plan (ap plan_about is)
-
-  pub share-ends : (source target : ℕ) → about ≡ SharePlan (ImportPlan source target) → (source < length job.maps) × (target < length job.maps)
-  share-ends source target is =
-      let import = share-import (ImportPlan source target) is in
-      let both : ImportPlan source target ≡ ImportPlan import.source import.target = import.is in
-      let one : import.source ≡ source = cc in
-      let other : import.target ≡ target = cc in
-      (subst (λ m. m < length job.maps) one import.known_source, subst (λ m. m < length job.maps) other import.known_target)
-
-  module _ (source target : ℕ) (is : about ≡ SharePlan (ImportPlan source target)) where
-    abbrev plan : Plan
-    plan = ImportPlan source target
+  module _ (plan : Plan) (is : about ≡ SharePlan plan) where
+    pub share-maps : IsMapPlan job plan
+    share-maps = plan-maps R F job files old e.view e.stage k n about e.is low plan (ap plan_about is)
 
     at : about_at job n ≡ Some (SharePlan plan)
     at = e.is ∙ ap Some is
 
-    owns-remote : (q : ℕ) → own_of old plan q ≡ remote job files plan p q
-    owns-remote = own-remote R F job files old e.view e.stage k n about e.is low plan is
+    pub share-owns : (q : ℕ) → own_of old plan q ≡ remote job files plan p q
+    share-owns = own-remote R F job files old e.view e.stage k n about e.is low plan is
 
-    told-remote : (q : ℕ) → q < job.ranks → told_of old plan q ≡ remote job files plan q p
-    told-remote q l = by (eqb q p) refl
+    pub share-told : (q : ℕ) → q < job.ranks → told_of old plan q ≡ remote job files plan q p
+    share-told q l = by (eqb q p) refl
       where
         by : (b : Bool) → eqb q p ≡ b → told_of old plan q ≡ remote job files plan q p
         by true f =
             let same = eqb-true q p f in
             ap (told_of old plan) same ∙ k.none_told plan
-            ∙ sym (none-own (owns job files plan p) (list_of job target p))
+            ∙ sym (none-own (owns job files plan p) (rank_list_by job files plan p))
             ∙ (λ t. remote job files plan (sym same t) p)
         by false f =
             (λ t. sym k.told t plan q)
             ∙ lists_are_told R F job files e.view e.stage n q plan k.stage at (phases_are_left e.stage n e.stage.entered e.all_absorbed (omega arith) low) l f
 
-    pub share-lacking : lacking_of old plan ≡ lacked_in (list_of job source old.me) (list_of job target old.me)
+    pub share-there : has_plan old plan ≡ true
+    share-there = ap is_some (plan-begun R F job files old e.view e.stage k n about e.is low plan (ap plan_about is)).size
+
+    pub share-lacking : lacking_of old plan ≡ lacking job files plan old.me
     share-lacking =
         (plan-begun R F job files old e.view e.stage k n about e.is low plan (ap plan_about is)).lacked
         ∙ (λ t. lacking job files plan (sym k.me t))
 
     pub share-none : own_of old plan old.me ≡ []
-    share-none = owns-remote old.me ∙ (λ t. remote job files plan p (k.me t)) ∙ none-own (owns job files plan p) (list_of job target p)
+    share-none = share-owns old.me ∙ (λ t. remote job files plan p (k.me t)) ∙ none-own (owns job files plan p) (rank_list_by job files plan p)
 
-    pub share-held : (q : ℕ) → q < old.ranks → All (λ g. stands g (list_of job source old.me) ≡ true) (told_of old plan q)
+    pub share-held : (q : ℕ) → q < old.ranks → All (λ g. owns job files plan old.me g ≡ true) (told_of old plan q)
     share-held q l =
         let known : q < job.ranks = subst (λ P. q < P) k.ranks l in
-        let is_told : remote job files plan q old.me ≡ told_of old plan q = (λ t. remote job files plan q (k.me t)) ∙ sym (told-remote q known) in
-        subst (All (λ g. stands g (list_of job source old.me) ≡ true)) is_told (filter_passes (owns job files plan old.me) (lacking job files plan q))
+        let is_told : remote job files plan q old.me ≡ told_of old plan q = (λ t. remote job files plan q (k.me t)) ∙ sym (share-told q known) in
+        subst (All (λ g. owns job files plan old.me g ≡ true)) is_told (filter_passes (owns job files plan old.me) (lacking job files plan q))
 
-    module _ (new : Book)
-        (makes : made_of new plan ≡ Some (import_of old.me old.ranks (list_of job source old.me) (list_of job target old.me) (own_of old plan) (told_of old plan)))
+    module _ (new : Book) (lists : PlanLists) (good : IsMadePlan job files p plan lists) (makes : made_of new plan ≡ Some lists)
         (others : (o : Plan) → same_plan o plan ≡ false → made_of new o ≡ made_of old o)
         (stays : slices new ≡ record (slices old) { made = made_of new }) where
-      made-is : (o : Plan) (lists : PlanLists) → made_of new o ≡ Some lists → IsMadeImport job files p o lists
-      made-is o lists f = by (same_plan o plan) refl
+      made-is : (o : Plan) (found : PlanLists) → made_of new o ≡ Some found → IsMadePlan job files p o found
+      made-is o found f = by (same_plan o plan) refl
         where
-          by : (b : Bool) → same_plan o plan ≡ b → IsMadeImport job files p o lists
+          by : (b : Bool) → same_plan o plan ≡ b → IsMadePlan job files p o found
           by true g =
               let same : o ≡ plan = same-is o plan g in
-              let made : made_of new plan ≡ Some (import_of p job.ranks (list_of job source p) (list_of job target p) (own_of old plan) (told_of old plan)) =
-              makes ∙ (λ t. Some (import_of (k.me t) (k.ranks t) (list_of job source (k.me t)) (list_of job target (k.me t)) (own_of old plan) (told_of old plan))) in
-              let two : Some (import_of p job.ranks (list_of job source p) (list_of job target p) (own_of old plan) (told_of old plan)) ≡ Some lists = sym made ∙ (λ t. made_of new (sym same t)) ∙ f in
-              let one : import_of p job.ranks (list_of job source p) (list_of job target p) (own_of old plan) (told_of old plan) ≡ lists = cc in
-              record {
-                source = source;
-                target = target;
-                is = same;
-                import = subst (IsJobImport job files source target p) one
-                    (import-is job files source target p (own_of old plan) (told_of old plan) k.stage.within k.valid.limits.ranks owns-remote told-remote);
-              }
-          by false g = k.made o lists (sym (others o g) ∙ f)
+              let two : Some lists ≡ Some found = sym makes ∙ (λ t. made_of new (sym same t)) ∙ f in
+              let one : lists ≡ found = cc in
+              subst (λ r. IsMadePlan job files p r found) (sym same) (subst (IsMadePlan job files p plan) one good)
+          by false g = k.made o found (sym (others o g) ∙ f)
 
       some-made : (o : Plan) → (same_plan o plan ≡ false → is_some (made_of old o) ≡ true) → is_some (made_of new o) ≡ true
       some-made o old_made = by (same_plan o plan) refl
@@ -213,3 +225,24 @@ module _ {S : Type 0} (R : Semiring S) (F : Conversions S) (job : Job) (files : 
               let one : plan ≡ o = cc in
               let yes : same_plan o plan ≡ true = (λ t. same_plan o (one t)) ∙ same-self o in
               let bad : ⊥ = cc in absurd bad
+
+  -- the lists that are made of what the book has are those of the job's import or export
+
+  module _ (source target : ℕ) where
+    pub share-import : about ≡ SharePlan (ImportPlan source target)
+        → IsMadePlan job files p (ImportPlan source target)
+        (import_of old.me old.ranks (list_of job source old.me) (list_of job target old.me) (own_of old (ImportPlan source target)) (told_of old (ImportPlan source target)))
+    share-import is =
+        let plan = ImportPlan source target in
+        subst (IsJobImport job files source target p)
+        (λ t. import_of (sym k.me t) (sym k.ranks t) (list_of job source (sym k.me t)) (list_of job target (sym k.me t)) (own_of old plan) (told_of old plan))
+        (import-is job files source target p (own_of old plan) (told_of old plan) k.stage.within k.valid.limits.ranks (share-owns plan is) (share-told plan is))
+
+    pub share-export : about ≡ SharePlan (ExportPlan source target)
+        → IsMadePlan job files p (ExportPlan source target)
+        (export_of old.me old.ranks (list_of job source old.me) (list_of job target old.me) (own_of old (ExportPlan source target)) (told_of old (ExportPlan source target)))
+    share-export is =
+        let plan = ExportPlan source target in
+        subst (IsJobExport job files source target p)
+        (λ t. export_of (sym k.me t) (sym k.ranks t) (list_of job source (sym k.me t)) (list_of job target (sym k.me t)) (own_of old plan) (told_of old plan))
+        (export-is job files source target p (own_of old plan) (told_of old plan) k.stage.within k.valid.limits.ranks (share-owns plan is) (share-told plan is))

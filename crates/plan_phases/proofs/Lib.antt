@@ -11,3 +11,4 @@ pub mod EnteringMaps
 pub mod EnteringPlans
 pub mod EnteringAnswers
 pub mod EnteringBounds
+pub mod MapPlans

@@ -8,7 +8,6 @@ use Rattle.model_defs.specs.declared.job.Job.{Job}
 use Rattle.model_defs.specs.declared.phase.About.{About}
 use Rattle.model_defs.specs.declared.phase.About.TheVariants.{RegisterMap, AskOwners, TellOwners, SharePlan}
 use Rattle.model_defs.specs.declared.phase.Plan.{Plan}
-use Rattle.model_defs.specs.declared.phase.Plan.TheVariants.{ImportPlan}
 use Rattle.model_defs.specs.Letters.{entries_about}
 use Rattle.model_defs.specs.Maps.{size_of}
 use Rattle.model_defs.specs.Transfers.{owner_map}
@@ -16,10 +15,10 @@ use Rattle.rank_plans.specs.Answers.{word_of}
 use Rattle.rank_plans.specs.Books.{Book, asked_of, directory_of, has_map, lacking_of, own_of}
 use Rattle.rank_plans.specs.Books as book
 use Rattle.rank_stages.specs.OwnerLaws.{plan_about}
-use Rattle.vector_jobs.specs.VectorPhases.{IsImport}
+use Rattle.vector_jobs.specs.VectorPhases.{IsMapPlan}
 use Rattle.plan_phases.specs.BookStages.{IsBookStage}
 use Rattle.plan_phases.specs.BookCalls.{IsSendingBook}
-use Rattle.plan_phases.proofs.WordsStage.{answers-told, own-remote, owners-there, plan-begun, plan-import}
+use Rattle.plan_phases.proofs.WordsStage.{answers-told, own-remote, owners-there, plan-begun, plan-maps}
 
 module _ {S : Type 0} (R : Semiring S) (F : Conversions S) (job : Job) (files : List File) (b : Book) (about : About) (to : ℕ)
     (e : IsSendingBook R F job files b about to) where
@@ -43,19 +42,18 @@ module _ {S : Type 0} (R : Semiring S) (F : Conversions S) (job : Job) (files : 
       ∙ (λ t. homed (k.ranks t) (size_of job (owner_map job plan)) to (begun.lacked t))
       ∙ ap (λ a. entries_about job files i a e.stage.rank to) (sym is)
 
-  pub sent-import : (plan : Plan) → about ≡ TellOwners plan → IsImport job plan
-  sent-import plan is = plan-import R F job files b e.view e.stage k e.phase about e.is low plan (ap plan_about is)
+  pub sent-maps : (plan : Plan) → about ≡ TellOwners plan → IsMapPlan job plan
+  sent-maps plan is = plan-maps R F job files b e.view e.stage k e.phase about e.is low plan (ap plan_about is)
 
-  pub sent-directory : (source target : ℕ) (plan : Plan) → about ≡ TellOwners plan → plan ≡ ImportPlan source target → has_map b source ≡ true
-  sent-directory source target plan is import =
-      ap (λ p. has_map b (owner_map job p)) (sym import) ∙ owners-there R F job files b e.view e.stage k e.phase about e.is low plan is
+  pub sent-directory : (m : ℕ) (plan : Plan) → about ≡ TellOwners plan → m ≡ owner_map job plan → has_map b m ≡ true
+  sent-directory m plan is of = ap (has_map b) of ∙ owners-there R F job files b e.view e.stage k e.phase about e.is low plan is
 
-  pub sent-told : (source target i : ℕ) (plan : Plan) → about ≡ TellOwners plan → plan ≡ ImportPlan source target → (words : List ℕ)
-      → words ≡ map (λ g. word_of (directory_of b source g)) (asked_of b plan to)
+  pub sent-told : (m i : ℕ) (plan : Plan) → about ≡ TellOwners plan → m ≡ owner_map job plan → (words : List ℕ)
+      → words ≡ map (λ g. word_of (directory_of b m g)) (asked_of b plan to)
       → words ≡ entries_about job files i about e.stage.rank to
-  sent-told source target i plan is import words same =
+  sent-told m i plan is of words same =
       same
-      ∙ (λ t. map (λ g. word_of (directory_of b (owner_map job (sym import t)) g)) (asked_of b plan to))
+      ∙ (λ t. map (λ g. word_of (directory_of b (of t) g)) (asked_of b plan to))
       ∙ answers-told R F job files b e.view e.stage k e.phase about e.is low plan is i to e.known
 
   pub sent-shared : (plan : Plan) (i : ℕ) → about ≡ SharePlan plan → (words : List ℕ) → words ≡ own_of b plan to

@@ -32,7 +32,7 @@ use Rattle.rank_stages.specs.PhaseOrder.{IsEarlierAbout, IsPrepared}
 use Rattle.rank_stages.specs.Views.{View}
 use Rattle.rank_stages.proofs.Owners.{answers_are_owners, earlier_phases_are_left, indices_have_one_owner, remotes_are_by_owners}
 use Rattle.rank_stages.proofs.Prepared.{phases_are_prepared}
-use Rattle.vector_jobs.specs.VectorPhases.{IsImport}
+use Rattle.vector_jobs.specs.VectorPhases.{IsMapPlan}
 use Rattle.plan_phases.specs.BookStages.{IsBegun, IsBookStage}
 
 -- a map of the job has at most 2^40 indices
@@ -70,8 +70,8 @@ module _ {S : Type 0} (R : Semiring S) (F : Conversions S) (job : Job) (files : 
   pub plan-there : (plan : Plan) → plan_about about ≡ Some plan → has_plan b plan ≡ true
   plan-there plan of = ap is_some (plan-begun plan of).size
 
-  pub plan-import : (plan : Plan) → plan_about about ≡ Some plan → IsImport job plan
-  plan-import plan of = k.vectors.plans n about plan at of
+  pub plan-maps : (plan : Plan) → plan_about about ≡ Some plan → IsMapPlan job plan
+  plan-maps plan of = k.vectors.plans n about plan at of
 
   pub one-owner : (m : ℕ) → map_about job about ≡ Some m → IsOwnerMap job m
   one-owner m of = indices_have_one_owner job n m about k.valid at of

@@ -10,7 +10,7 @@ use Rattle.model_defs.specs.declared.job.Job.{Job}
 use Rattle.model_defs.specs.declared.phase.About.{About}
 use Rattle.model_defs.specs.declared.phase.About.TheVariants.{RegisterMap, SharePlan}
 use Rattle.model_defs.specs.declared.phase.Plan.{Plan}
-use Rattle.model_defs.specs.declared.phase.Plan.TheVariants.{ImportPlan}
+use Rattle.model_defs.specs.declared.phase.Plan.TheVariants.{ImportPlan, ExportPlan}
 use Rattle.model_defs.specs.Fitting.{IsFitting}
 use Rattle.model_defs.specs.Maps.{layout_of, size_of}
 use Rattle.model_defs.specs.Plans.{lacking, remote}
@@ -21,7 +21,7 @@ use Rattle.rank_plans.specs.Books as book
 use Rattle.rank_stages.specs.JobStages.{IsJobStage, about_at}
 use Rattle.rank_stages.specs.OwnerLaws.{plan_about}
 use Rattle.rank_stages.specs.Views.{View}
-use Rattle.rank_transfers.specs.JobRows.{IsJobImport}
+use Rattle.rank_transfers.specs.JobRows.{IsJobExport, IsJobImport}
 use Rattle.vector_jobs.specs.VectorPhases.{HasVectorPhases}
 
 -- the view with what the book has
@@ -47,12 +47,11 @@ pub record IsBegun (job : Job) (files : List File) (b : Book) (p : ℕ) (plan : 
   pub size : book.size_of b plan ≡ Some (size_of job (owner_map job plan))
   pub lacked : lacking_of b plan ≡ lacking job files plan p
 
--- the lists are those of rank p's import by the plan
-pub record IsMadeImport (job : Job) (files : List File) (p : ℕ) (plan : Plan) (lists : PlanLists) : Type 0 where
-  pub source : ℕ
-  pub target : ℕ
-  pub is : plan ≡ ImportPlan source target
-  pub import : IsJobImport job files source target p lists
+-- the lists are those of rank p's import or export by the plan
+abbrev pub IsMadePlan : Job → List File → ℕ → Plan → PlanLists → Type 0
+IsMadePlan job files p (ImportPlan source target) lists = IsJobImport job files source target p lists
+IsMadePlan job files p (ExportPlan source target) lists = IsJobExport job files source target p lists
+IsMadePlan job files p _ lists = ⊥
 
 module _ {S : Type 0} (R : Semiring S) (F : Conversions S) (job : Job) (files : List File) where
   -- The book is that of the rank of this view, which stands at a stage of a job.
@@ -80,6 +79,6 @@ module _ {S : Type 0} (R : Semiring S) (F : Conversions S) (job : Job) (files : 
         → stands g (lacking job files plan s.rank) ≡ true → owners_of b plan g ≡ owner (layout_of job (owner_map job plan)) g
     -- the rank tells itself nothing
     pub none_told : (plan : Plan) → told_of b plan s.rank ≡ []
-    -- the plans that were made are imports, and those of phases that were left were made
-    pub made : (plan : Plan) (lists : PlanLists) → made_of b plan ≡ Some lists → IsMadeImport job files s.rank plan lists
+    -- the plans that were made are imports and exports, and those of phases that were left were made
+    pub made : (plan : Plan) (lists : PlanLists) → made_of b plan ≡ Some lists → IsMadePlan job files s.rank plan lists
     pub finished : (n : ℕ) (plan : Plan) → about_at job n ≡ Some (SharePlan plan) → suc n < s.entered → is_some (made_of b plan) ≡ true

@@ -8,7 +8,7 @@ ghost use Rattle.rank_stages.specs.JobStages.{HasValues};
 ghost use Rattle.plan_phases.specs.BookStages.{IsBookStage, with_book};
 ghost use Rattle.plan_phases.specs.BookCalls.{IsEnteringBook};
 
-use crate::imports::{is_uniform, lacked_by, owner_map, size_of};
+use crate::maps::{is_uniform, lacked_by, owner_map, size_of};
 use model_defs::{About, Job, Plan};
 use rank_plans::PlanBook;
 use rank_share::own_map;

@@ -4,18 +4,17 @@ ghost use Rattle.map_core.specs.Layouts.{stands};
 ghost use Rattle.mm_text.specs.Reading.{File};
 ghost use Rattle.model_defs.specs.declared.phase.About.TheVariants.{SharePlan};
 ghost use Rattle.model_defs.specs.declared.phase.Plan.{Plan};
-ghost use Rattle.model_defs.specs.declared.phase.Plan.TheVariants.{ImportPlan};
+ghost use Rattle.model_defs.specs.declared.phase.Plan.TheVariants.{ExportPlan, ImportPlan};
 ghost use Rattle.model_defs.specs.Maps.{list_of};
 ghost use Rattle.model_defs.specs.Transfers.{same_plan};
 ghost use Rattle.model_defs.specs.Valid.{IsValid};
 ghost use Rattle.rank_plans.specs.Answers.{lacked_in};
 ghost use Rattle.rank_plans.specs.Books.{has_plan, lacking_of, made_of, own_of, slices, told_of};
-ghost use Rattle.rank_plans.specs.Tasks.{import_of};
+ghost use Rattle.rank_plans.specs.Tasks.{export_of, import_of};
 ghost use Rattle.rank_stages.specs.JobStages.{about_at};
 ghost use Rattle.plan_phases.specs.BookStages.{IsBookStage};
 ghost use Rattle.plan_phases.specs.BookCalls.{IsLeavingBook};
 
-use crate::imports::import_maps;
 use model_defs::{About, Job, Plan};
 use rank_plans::PlanBook;
 use rank_share::own_map;
@@ -37,11 +36,28 @@ pub fn finish_phase<S: Scalar>(
         → about_at job.now n ≡ Some (SharePlan plan) → n < e.stage.entered → is_some (made_of book.new plan) ≡ true) }
 {
     match about {
-        About::SharePlan { plan } => {
-            let (source, target) = import_maps(plan);
-            make_import(alloc, book, job, source, target)
-        }
+        About::SharePlan { plan } => finish_share::<S>(alloc, book, job, plan),
         _ => Ok(()),
+    }
+}
+
+/// Makes the plan that was shared, of an import or of an export. `Err` means that memory ran out.
+fn finish_share<S: Scalar>(
+    alloc: Global,
+    book: &mut PlanBook,
+    job: &Job,
+    plan: Plan,
+) -> Result<(), AllocError>
+    requires leaves { (files : List File) × IsLeavingBook S.semiring S.conversions job.now files book.old (SharePlan plan) }
+    ensures kept { OnOk result ((files : List File) (e : IsLeavingBook S.semiring S.conversions job.now files book.old (SharePlan plan))
+        → IsBookStage S.semiring S.conversions job.now files book.new e.view e.stage) }
+    ensures made { OnOk result ((files : List File) (e : IsLeavingBook S.semiring S.conversions job.now files book.old (SharePlan plan)) (n : ℕ) (other : Plan)
+        → about_at job.now n ≡ Some (SharePlan other) → n < e.stage.entered → is_some (made_of book.new other) ≡ true) }
+{
+    match plan {
+        Plan::ImportPlan { source, target } => make_import(alloc, book, job, source, target),
+        Plan::ExportPlan { source, target } => make_export(alloc, book, job, source, target),
+        _ => unreachable!(),
     }
 }
 
@@ -72,4 +88,33 @@ fn make_import(
     let from = own_map(alloc, job, source, me)?;
     let to = own_map(alloc, job, target, me)?;
     book.finish_import(Plan::ImportPlan { source, target }, &from, &to)
+}
+
+/// Makes the plan of an export between two maps, which was begun, once each rank told what it gives to this one. All else stays.
+/// `Err` means that memory ran out.
+fn make_export(
+    alloc: Global,
+    book: &mut PlanBook,
+    job: &Job,
+    source: u32,
+    target: u32,
+) -> Result<(), AllocError>
+    requires valid { IsValid job.now }
+    requires known_source { source < length job.now.maps }
+    requires known_target { target < length job.now.maps }
+    requires ranks { book.old.ranks ≡ job.now.ranks }
+    requires known_plan { has_plan book.old (ExportPlan source target) ≡ true }
+    requires lacking { lacking_of book.old (ExportPlan source target) ≡ lacked_in (list_of job.now target book.old.me) (list_of job.now source book.old.me) }
+    requires none_of_own { own_of book.old (ExportPlan source target) book.old.me ≡ [] }
+    requires held { (q : ℕ) → q < book.old.ranks → All (λ g. stands g (list_of job.now target book.old.me) ≡ true) (told_of book.old (ExportPlan source target) q) }
+    ensures made { OnOk result (made_of book.new (ExportPlan source target)
+        ≡ Some (export_of book.old.me book.old.ranks (list_of job.now source book.old.me) (list_of job.now target book.old.me)
+        (own_of book.old (ExportPlan source target)) (told_of book.old (ExportPlan source target)))) }
+    ensures others { OnOk result ((other : Plan) → same_plan other (ExportPlan source target) ≡ false → made_of book.new other ≡ made_of book.old other) }
+    ensures stays { OnOk result (slices book.new ≡ record (slices book.old) { made = made_of book.new }) }
+{
+    let me = book.me();
+    let from = own_map(alloc, job, source, me)?;
+    let to = own_map(alloc, job, target, me)?;
+    book.finish_export(Plan::ExportPlan { source, target }, &from, &to)
 }

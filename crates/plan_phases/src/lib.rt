@@ -1,9 +1,9 @@
 //! What one rank of a job does in the phases in which plans are made.
 //!
 //! In these phases the ranks register maps, ask for owners and are told them (`Tpetra::Directory`), and say what they lack of each
-//! owner (`Tpetra::Import`). A rank keeps what it learns in a `PlanBook`. It enters a phase, makes the words of its letter to each other
-//! rank, absorbs the words that come, and makes the plan once all came. Which list of indices a phase is about follows from the
-//! job and from what the book has by then.
+//! owner: what they take of it (`Tpetra::Import`), or what they give to it (`Tpetra::Export`). A rank keeps what it learns in a
+//! `PlanBook`. It enters a phase, makes the words of its letter to each other rank, absorbs the words that come, and makes the plan
+//! once all came. Which list of indices a phase is about follows from the job and from what the book has by then.
 //!
 //! `specs/BookStages` says what a book has after which phases and letters: the slices of a `View` of `rank_stages`. The words are
 //! the entries of the job's letters (`model_defs`). The crate knows no bytes of letters and no numbers of vectors.
@@ -21,8 +21,8 @@
 mod absorbing;
 mod entering;
 mod finishing;
-mod imports;
 pub mod laws;
+mod maps;
 mod words;
 
 pub use absorbing::absorb_words;

@@ -6,7 +6,7 @@ ghost use Rattle.model_defs.specs.Letters.{entries_about};
 ghost use Rattle.model_defs.specs.Valid.{IsValid};
 ghost use Rattle.plan_phases.specs.BookCalls.{IsSendingBook};
 
-use crate::imports::import_maps;
+use crate::maps::owner_map;
 use model_defs::{About, Job};
 use rank_plans::PlanBook;
 use rank_share::own_map;
@@ -30,10 +30,7 @@ pub fn phase_words<S: Scalar>(
     match about {
         About::RegisterMap { map } => registered_words(alloc, book, job, map, to),
         About::AskOwners { plan } => book.ask_words(plan, to),
-        About::TellOwners { plan } => {
-            let (owner_map, _) = import_maps(plan);
-            book.tell_words(plan, owner_map, to)
-        }
+        About::TellOwners { plan } => book.tell_words(plan, owner_map(job, plan), to),
         About::SharePlan { plan } => book.share_words(plan, to),
         About::SendNumbers { .. } => unreachable!(),
     }

@@ -15,6 +15,7 @@ use Rattle.rank_phases.specs.Stages.{Stage, CanAbsorb, absorbing}
 use Rattle.tables.specs.Tables.{Table}
 use Rattle.model_defs.specs.declared.job.Job.{Job}
 use Rattle.model_defs.specs.Machine.{letter_table}
+use Rattle.model_defs.specs.Makers.{maker_of}
 use Rattle.model_defs.specs.Plans.{sent_rows}
 use Rattle.model_defs.specs.Shapes.{shape}
 use Rattle.model_defs.specs.Stages.{is_fixed, transfer_at}
@@ -22,12 +23,12 @@ use Rattle.rank_stages.specs.JobStages.{IsJobStage, target_so_far}
 use Rattle.rank_stages.specs.LetterLaws.{IsRead}
 use Rattle.rank_stages.proofs.Absorbing.{numbers_are_absorbed}
 use Rattle.rank_stages.proofs.LetterForms.{numbers_are_read}
+use Rattle.plan_phases.specs.BookStages.{IsMadePlan}
 use Rattle.plan_phases.proofs.Passing.{books_stay}
 use Rattle.rank_transfers.specs.Arrivals.{after_table, numbers_table, rows_from}
-use Rattle.rank_transfers.specs.JobRows.{IsJobImport}
-use Rattle.rank_transfers.proofs.Imports.{rows-come}
 use Rattle.rank_transfers.proofs.JobBytes.{letters-are-rows, letters-are-tables}
 use Rattle.rank_values.specs.Vectors.{global_table}
+use Rattle.vector_jobs.specs.VectorPhases.{copy_transfer}
 use Rattle.vector_moves.specs.Moves.{IsRowsLetter}
 use Rattle.rank_core.specs.declared.counts.EntryCounts.{EntryCounts}
 use Rattle.rank_core.specs.declared.gathering.Gathering.{Gathering}
@@ -37,7 +38,7 @@ use Rattle.rank_core.specs.Results.{HasEntries}
 use Rattle.rank_core.specs.Workers.{IsJobWorker}
 use Rattle.rank_core.proofs.RankNames.{from-known}
 use Rattle.rank_core.proofs.MoreLetters.{counted}
-use Rattle.rank_core.proofs.MovedLetters.{copied, fixed-is, is-in, mode-is, move-of, sent-in, transfer-is, words-few}
+use Rattle.rank_core.proofs.CopiedLetters.{copied, copy-of, fixed-is, is-in, mode-is, sent-in, serves, words-few}
 
 module _ {S : Type 0} (R : Semiring S) (F : Conversions S) (laws : AreConversions F) (worker : JobWorker S) (s : Stage) (stands : IsJobWorker R F worker s) (name : Name)
     (bytes : List ℕ) (can : CanAbsorb s name bytes) (g : Gathering S) (some : worker.gathering ≡ Some g) where
@@ -48,7 +49,7 @@ module _ {S : Type 0} (R : Semiring S) (F : Conversions S) (laws : AreConversion
   k = length worker.values.items
 
   abbrev source : ℕ
-  source = (move-of R F worker s stands g some).source
+  source = (copy-of R F worker s stands g some).source
 
   abbrev sent : List ℕ
   sent = sent_rows job stands.files (transfer_at job k 0) name.from name.to
@@ -63,17 +64,14 @@ module _ {S : Type 0} (R : Semiring S) (F : Conversions S) (laws : AreConversion
 
   pub sender-known : name.from < g.arriving.plan.ranks
   sender-known =
-      subst (λ n. name.from < n) (sym (is-in R F worker s stands g some).is.plan.ranks)
+      subst (λ n. name.from < n) (sym (serves R F worker s stands g some).ranks)
       (from-known R F job stands.files stands.view s stands.book.stage name can.is_letter.named)
 
   rows-are : rows_from g.arriving.plan g.arriving.vector.map name.from ≡ sent_rows worker.job.value stands.files (transfer_at worker.job.value (length worker.values.items) 0) name.from name.to
   rows-are =
-      let is = (is-in R F worker s stands g some).is in
-      let move = move-of R F worker s stands g some in
-      ap (λ m. rows_from g.arriving.plan m name.from) is.map
-      ∙ rows-come job stands.files (shape job move.source).rows move.target worker.me name.from g.arriving.plan is.plan
-      (from-known R F job stands.files stands.view s stands.book.stage name can.is_letter.named)
-      ∙ (λ t. sent_rows job stands.files (sym (transfer-is R F worker s stands g some) t) name.from (sym (can.is_letter.to ∙ stands.worker_of.rank) t))
+      ap (λ m. rows_from g.arriving.plan m name.from) (is-in R F worker s stands g some).is.map
+      ∙ (serves R F worker s stands g some).come name.from (from-known R F job stands.files stands.view s stands.book.stage name can.is_letter.named)
+      ∙ ap (λ p. sent_rows job stands.files (transfer_at job k 0) name.from p) (sym (can.is_letter.to ∙ stands.worker_of.rank))
 
   columns-are : g.arriving.vector.columns ≡ (shape worker.job.value (length worker.values.items)).columns
   columns-are = (is-in R F worker s stands g some).is.columns
@@ -159,9 +157,9 @@ module _ {S : Type 0} (R : Semiring S) (F : Conversions S) (laws : AreConversion
             about = in_phase.about;
             value = in_phase.value;
             is = record {
-              move = is.move;
+              copy = is.copy;
               source = same_source ∙ is.source;
-              plan = subst (λ lists. IsJobImport job stands.files (shape job is.move.source).rows is.move.target worker.me lists) (sym same_plan) is.plan;
+              plan = subst (IsMadePlan job stands.files worker.me (copy_transfer job k is.copy.source (maker_of job k)).plan) (sym same_plan) is.plan;
               mode = same_mode ∙ is.mode;
               map = same_shape.0 ∙ is.map;
               columns = same_shape.1 ∙ is.columns;

@@ -1,6 +1,6 @@
 -- What calls answer, as their contracts say it.
-use Rattle.std.proofs.Common.{◌≡◌, ℕ, zero, suc, ◌+◌, ◌<◌, List, [], length, get_or, Some, Result, Ok, Err, IfOk, refl, sym, ap, ◌∙◌, subst}
-use Rattle.std.specs.Prelude.{ℤ, OnOk, slice_get}
+use Rattle.std.proofs.Common.{◌≡◌, ℕ, zero, suc, ◌+◌, ◌<◌, List, [], length, get_or, Some, Result, Ok, Err, IfOk, refl, sym, ap, ◌∙◌, Option, None}
+use Rattle.std.specs.Prelude.{OnOk, slice_get}
 use Rattle.std.proofs.lemmas.List.{length-map}
 use Rattle.std.proofs.lemmas.Option.{slice_get-get_or, same_Some}
 use Rattle.scalar_laws.specs.Semiring.{Semiring}
@@ -8,18 +8,15 @@ use Rattle.scalar_laws.specs.Conversions.{Conversions}
 use Rattle.tables.specs.Indices.{count_from}
 use Rattle.mm_text.specs.Reading.{File}
 use Rattle.mm_text.specs.declared.file_data.Line.{Line}
-use Rattle.multivector.specs.Vectors.{IsVector, VectorState}
+use Rattle.multivector.specs.Vectors.{VectorState}
 use Rattle.model_defs.specs.declared.job.Job.{Job}
-use Rattle.model_defs.specs.declared.job.Step.TheVariants as step
-use Rattle.model_defs.specs.FileMatrix.{number_of}
-use Rattle.model_defs.specs.Maps.{list_of}
-use Rattle.model_defs.specs.Operations.{combination, scaled}
+use Rattle.model_defs.specs.Maps.{has_index, list_of}
+use Rattle.model_defs.specs.Operations.{filled}
 use Rattle.model_defs.specs.Shapes.{shape}
 use Rattle.rank_share.specs.declared.share.Share.{Share}
 use Rattle.rank_share.specs.Shares.{cell_count, share, value_lines}
 use Rattle.rank_values.specs.Vectors.{global_table, lines_on}
 use Rattle.rank_core.specs.Inputs.{IsRankInput}
-use Rattle.rank_core.specs.Steps.{IsStepPiece}
 use Rattle.peers.specs.Protocols.{Letter}
 use Rattle.rank_core.specs.Pieces.{IsOwnValue}
 use Rattle.rank_core.proofs.OwnValues.{given-own}
@@ -48,36 +45,6 @@ module _ {S : Type 0} (values : List (VectorState S)) where
   pub there : (x : ℕ) (a : VectorState S) → x < length values → a ≡ get_or values x a → slice_get values x ≡ Some a
   there x a l is = slice_get-get_or values x a l ∙ ap (λ b. Some b) (sym is)
 
-  module _ (R : Semiring S) (F : Conversions S) where
-    pub update-piece : (name : List ℕ) (x y : ℕ) (alpha beta : ℤ) (a b v : VectorState S) → slice_get values x ≡ Some a → slice_get values y ≡ Some b
-        → v.map ≡ b.map → v.columns ≡ b.columns → global_table v ≡ combination R (number_of R F alpha) (global_table a) (number_of R F beta) (global_table b)
-        → IsStepPiece R F values (step.Update name x y alpha beta) v
-    update-piece name x y alpha beta a b v at_x at_y same many table = λ c d at_c at_d.
-        let one : a ≡ c = same_Some a c (sym at_x ∙ at_c) in
-        let two : b ≡ d = same_Some b d (sym at_y ∙ at_d) in
-        record {
-          map = same ∙ ap (λ w. w.map) two;
-          columns = many ∙ ap (λ w. w.columns) two;
-          table = table ∙ (λ t. combination R (number_of R F alpha) (global_table (one t)) (number_of R F beta) (global_table (two t)));
-        }
-
-    pub move-piece : (name : List ℕ) (x m : ℕ) (a v : VectorState S) → slice_get values x ≡ Some a → v ≡ a → IsVector a → IsStepPiece R F values (step.Move name x m) v
-    move-piece name x m a v at_x same whole = λ c at_c.
-        let one : a ≡ c = same_Some a c (sym at_x ∙ at_c) in
-        let all = same ∙ one in
-        (record { map = ap (λ w. w.map) all; columns = ap (λ w. w.columns) all; table = ap global_table all }, subst IsVector one whole)
-
-    pub scale-piece : (name : List ℕ) (x : ℕ) (alpha : ℤ) (a v : VectorState S) → slice_get values x ≡ Some a
-        → v.map ≡ a.map → v.columns ≡ a.columns → global_table v ≡ scaled R (number_of R F alpha) (global_table a)
-        → IsStepPiece R F values (step.Scale name x alpha) v
-    scale-piece name x alpha a v at_x same many table = λ c at_c.
-        let one : a ≡ c = same_Some a c (sym at_x ∙ at_c) in
-        record {
-          map = same ∙ ap (λ w. w.map) one;
-          columns = many ∙ ap (λ w. w.columns) one;
-          table = table ∙ ap (λ w. scaled R (number_of R F alpha) (global_table w)) one;
-        }
-
 pub if-ok : {T E : Type 0} {P Q : T → Type 0} (r : Result T E) → IfOk r P → ((x : T) → P x → Q x) → IfOk r Q
 if-ok (Ok x) p f = f x p
 if-ok (Err e) p f = tt
@@ -89,3 +56,24 @@ on-ok (Err e) p f = tt
 pub on-both : {T E : Type 0} {P Q Z : Type 0} (r : Result T E) → OnOk r P → OnOk r Q → (P → Q → Z) → OnOk r Z
 on-both (Ok x) p q f = f p q
 on-both (Err e) p q f = tt
+
+-- ---- what the cells of a value are combined with
+
+pub some-zeros : {T E : Type 0} (P : T → Type 0) (r : Result T E) (m : Option ℕ) (o : ℕ) → m ≡ Some o → IfOk r (λ v. m ≡ None → P v)
+some-zeros P (Ok v) m o e = λ none. absurd (let bad : Some o ≡ None = sym e ∙ none in let wrong : ⊥ = cc in wrong)
+some-zeros P (Err x) m o e = tt
+
+pub some-piece : {S E : Type 0} (values : List (VectorState S)) (r : Result (VectorState S) E) (m : Option ℕ) (o : ℕ) (a : VectorState S) → m ≡ Some o → o < length values → a ≡ get_or values o a
+    → IfOk r (λ v. v ≡ a) → IfOk r (λ v. (n : ℕ) → m ≡ Some n → slice_get values n ≡ Some v)
+some-piece values (Ok v) m o a e l is same = λ n at. ap (slice_get values) (sym (same_Some o n (sym e ∙ at))) ∙ there values o a l is ∙ ap (λ b. Some b) (sym same)
+some-piece values (Err x) m o a e l is same = tt
+
+pub none-zeros : {S E : Type 0} (R : Semiring S) (F : Conversions S) (job : Job) (me rows columns : ℕ) (list : List ℕ) (r : Result (VectorState S) E) (m : Option ℕ) → list ≡ list_of job rows me
+    → IfOk r (λ v. v.map ≡ list) → IfOk r (λ v. v.columns ≡ columns) → IfOk r (λ v. global_table v ≡ lines_on R F list columns [])
+    → IfOk r (λ v. m ≡ None → (v.map ≡ list_of job rows me) × ((v.columns ≡ columns) × (global_table v ≡ filled (has_index job rows me) columns R.nought)))
+none-zeros R F job me rows columns list (Ok v) m is same many cells = λ none. (same ∙ is, (many, cells ∙ ap (λ l. lines_on R F l columns []) is))
+none-zeros R F job me rows columns list (Err x) m is same many cells = tt
+
+pub none-piece : {S E : Type 0} (values : List (VectorState S)) (r : Result (VectorState S) E) (m : Option ℕ) → m ≡ None → IfOk r (λ v. (n : ℕ) → m ≡ Some n → slice_get values n ≡ Some v)
+none-piece values (Ok v) m e = λ n at. absurd (let bad : None ≡ Some n = sym e ∙ at in let wrong : ⊥ = cc in wrong)
+none-piece values (Err x) m e = tt

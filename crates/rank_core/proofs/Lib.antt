@@ -1,13 +1,14 @@
-pub mod MovedHere
+pub mod CopyRows
 pub mod OwnValues
 pub mod Clauses
+pub mod Combined
 pub mod GivenLetters
 pub mod FinishedRanks
 pub mod Counted
 pub mod Standing
 pub mod NextValues
 pub mod Entered
-pub mod MovesBegun
+pub mod CopiesBegun
 pub mod SentNames
 pub mod EnteredNumbers
 pub mod PackedLetters
@@ -15,5 +16,5 @@ pub mod FreshWorkers
 pub mod MoreLetters
 pub mod RankNames
 pub mod AbsorbedWords
-pub mod MovedLetters
+pub mod CopiedLetters
 pub mod AbsorbedRows

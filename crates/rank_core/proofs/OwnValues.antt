@@ -1,14 +1,15 @@
 -- A rank's pieces of the values of a job that are made without letters, one after the other.
-use Rattle.std.proofs.Common.{◌≡◌, ℕ, zero, suc, ◌+◌, ◌-◌, ◌<◌, ◌≤◌, ◌⊎◌, inl, inr, cond, List, [], ◌∷◌, ◌++◌, map, filter, length, get_or, Option, Some, refl, sym, ap, ◌∙◌, subst, arith, append_assoc}
+use Rattle.std.proofs.Common.{◌≡◌, ℕ, zero, suc, ◌+◌, ◌-◌, ◌<◌, ◌≤◌, ◌⊎◌, inl, inr, cond, true, List, [], ◌∷◌, ◌++◌, map, filter, length, get_or, Option, Some, refl, sym, ap, ◌∙◌, subst, arith, append_assoc}
 use Rattle.std.specs.Prelude.{pos, slice_get}
 use Rattle.std.proofs.lemmas.Bool.{cases_lt, lt-ltb}
 use Rattle.std.proofs.lemmas.List.{length-append, length-map, get_or_append_left, get_or-append-add, get_or_push}
-use Rattle.std.proofs.lemmas.Option.{get_or_from_slice_get, slice_get-get_or, slice_get_within}
+use Rattle.std.proofs.lemmas.Option.{get_or_from_slice_get, slice_get-get_or, slice_get_within, same_Some}
 use Rattle.scalar_laws.specs.Semiring.{Semiring}
 use Rattle.scalar_laws.specs.Conversions.{Conversions}
 use Rattle.tables.specs.Tables.{Table, nowhere}
+use Rattle.combine_modes.specs.declared.mode.Mode.{Mode}
 use Rattle.mm_text.specs.Reading.{File}
-use Rattle.multivector.specs.Vectors.{VectorState}
+use Rattle.multivector.specs.Vectors.{IsVector, VectorState}
 use Rattle.model_defs.specs.declared.job.Job.{Job}
 use Rattle.model_defs.specs.declared.job.Origin.TheVariants.{Fill}
 use Rattle.model_defs.specs.declared.job.VectorSpec.{VectorSpec}
@@ -19,9 +20,11 @@ use Rattle.model_defs.specs.declared.job.Step.TheVariants as step
 use Rattle.model_defs.specs.FileMatrix.{number_of}
 use Rattle.model_defs.specs.Given.{given}
 use Rattle.peers.specs.Protocols.{Letter}
+use Rattle.rank_stages.specs.DataLaws.{copied_by}
 use Rattle.rank_stages.proofs.MadeValues.{first_pieces_are_pieces, pieces_are_made}
 use Rattle.vector_jobs.specs.VectorJobs.{IsVectorJob, IsVectorStep}
-use Rattle.vector_jobs.specs.VectorPhases.{IsVectorMaker}
+use Rattle.vector_jobs.specs.VectorPhases.{IsCopy, IsVectorMaker}
+use Rattle.vector_jobs.proofs.Copies.{copies-have-sources}
 use Rattle.vector_jobs.proofs.VectorMakers.{makers-are-vectors, shapes-are-on-maps}
 use Rattle.model_defs.specs.Machine.{arrivals, piece}
 use Rattle.model_defs.specs.Makers.{Maker, GivenVector, GivenParts, GivenMatrix, Made, maker_of, value_count, gives_value}
@@ -29,8 +32,8 @@ use Rattle.model_defs.specs.Maps.{list_of}
 use Rattle.model_defs.specs.Operations.{combination, scaled}
 use Rattle.model_defs.specs.Pieces.{piece_of}
 use Rattle.model_defs.specs.declared.shape.Sort.TheVariants.{Vector, Parts}
-use Rattle.model_defs.specs.Shapes.{shape, shape_by, dense_shape}
-use Rattle.model_defs.specs.Stages.{first_pieces, gathered_after, made_by, last_way, stage_count}
+use Rattle.model_defs.specs.Shapes.{shape, shape_by, dense_shape, is_dense}
+use Rattle.model_defs.specs.Stages.{first_pieces, gathered_after, made_by, make_piece, last_way, stage_count}
 use Rattle.model_defs.specs.declared.phase.Way.{Way}
 use Rattle.model_defs.specs.Transfers.{transfers}
 use Rattle.model_defs.specs.Turns.{Each}
@@ -40,11 +43,13 @@ use Rattle.rank_share.specs.declared.share.Share.{Share}
 use Rattle.rank_share.specs.Shares.{cell_count}
 use Rattle.rank_share.proofs.Positions.{cells-before, maker-vector, maker-parts}
 use Rattle.rank_share.proofs.SharedCells.{law-of-cells}
+use Rattle.rank_transfers.specs.Arrivals.{after_table}
+use Rattle.rank_transfers.proofs.Local.{local-exports-are-made, local-imports-are-made, local-moves-are-made, local-spreads-are-made}
 use Rattle.rank_values.specs.Vectors.{global_table, lines_on}
 use Rattle.rank_core.specs.Inputs.{IsRankInput}
-use Rattle.rank_core.specs.Steps.{CanMake, IsStepPiece}
+use Rattle.rank_core.specs.Steps.{AreAlike, CanMake, IsOnListOf, IsStepPiece}
 use Rattle.rank_core.specs.Pieces.{AreOwnValues, IsArrived, IsMadeHere, IsOwnValue}
-use Rattle.rank_core.proofs.MovedHere.{on-itself, stays-here}
+use Rattle.rank_core.proofs.CopyRows.{local-rows, none-comes}
 
 abbrev no_vector : VectorSpec
 no_vector = record { name = []; map = 0; columns = 0; from = Fill (pos 0) }
@@ -182,49 +187,132 @@ module _ {S : Type 0} (R : Semiring S) (F : Conversions S) (job : Job) (files : 
     valid-step : (s : Step) → maker_of job n ≡ Made s → IsValidStep job n s
     valid-step s maker = subst (IsValidMaker job n) maker (input.valid.values n known)
 
-    pub can-make : (s : Step) → maker_of job n ≡ Made s → IsVectorStep s → CanMake values s
-    can-make (step.Move name source m) maker vector =
+    -- the value whose cells it copies is on its own map, where no numbers are sent
+    copy-of : (source : ℕ) → copied_by (maker_of job n) ≡ Some source → IsCopy job n
+    copy-of source e = copies-have-sources job n source input.valid known e
+
+    own-rows : IsMadeHere job n → (source : ℕ) → copied_by (maker_of job n) ≡ Some source → (shape job source).rows ≡ (shape job n).rows
+    own-rows here source e =
+        let copy = copy-of source e in
+        let same : source ≡ copy.source = same_Some source copy.source (sym e ∙ copy.copied) in
+        ap (λ x. (shape job x).rows) same ∙ local-rows job n copy here
+
+    onto-rows : (s : Step) → maker_of job n ≡ Made s → (onto : ℕ) → shape_by n (shape job) (Made s) ≡ shape job onto → (shape job n).rows ≡ (shape job onto).rows
+    onto-rows s maker onto e = ap (λ t. t.rows) (shape-is s maker ∙ e)
+
+    alike : (x y : ℕ) → (shape job x).rows ≡ (shape job y).rows → (shape job x).columns ≡ (shape job y).columns → AreAlike values x y
+    alike x y rows columns = λ a b at_x at_y.
+        let left = own.each x a at_x in
+        let right = own.each y b at_y in
+        (left.map ∙ ap (λ m. list_of job m me) rows ∙ sym right.map, left.columns ∙ columns ∙ sym right.columns)
+
+    pub can-make : (s : Step) → maker_of job n ≡ Made s → IsMadeHere job n → IsVectorStep s → CanMake values s
+    can-make (step.Move name source m) maker here vector =
         let ok = valid-step (step.Move name source m) maker in
         let many = own.many in omega (arith, ok.0)
-    can-make (step.Update name x y alpha beta) maker vector =
-        let ok = valid-step (step.Update name x y alpha beta) maker in
+    can-make (step.Import name source onto mode) maker here vector =
+        let ok = valid-step (step.Import name source onto mode) maker in
         let many = own.many in (
-          omega (arith, ok.0),
-          omega (arith, ok.1),
-          λ a b at_x at_y.
-              let left = own.each x a at_x in
-              let right = own.each y b at_y in
-              (left.map ∙ ap (λ m. list_of job m me) ok.4 ∙ sym right.map, left.columns ∙ ok.5 ∙ sym right.columns),
+          omega (arith, ok.0.0),
+          omega (arith, ok.1.0),
+          alike source onto (own-rows here source (ap copied_by maker) ∙ onto-rows (step.Import name source onto mode) maker onto refl) ok.3,
         )
-    can-make (step.Scale name value alpha) maker vector = let low = valid-step (step.Scale name value alpha) maker in let many = own.many in omega (arith, low)
-    can-make (step.Print value) maker vector = absurd (valid-step (step.Print value) maker)
-    can-make (step.Import name source onto mode) maker vector = absurd (vector)
-    can-make (step.Export name source onto mode) maker vector = absurd (vector)
-    can-make (step.Spread name source m) maker vector = absurd (vector)
-    can-make (step.Apply name a x y alpha beta transposed) maker vector = absurd (vector)
-    can-make (step.Transpose name a) maker vector = absurd (vector)
-    can-make (step.Multiply name a b) maker vector = absurd (vector)
-    can-make (step.Add name a b alpha beta) maker vector = absurd (vector)
-    can-make (step.Assemble name source onto mode) maker vector = absurd (vector)
+    can-make (step.Export name source onto mode) maker here vector =
+        let ok = valid-step (step.Export name source onto mode) maker in
+        let many = own.many in (
+          omega (arith, ok.0.0),
+          omega (arith, ok.1.0),
+          alike source onto (own-rows here source (ap copied_by maker) ∙ onto-rows (step.Export name source onto mode) maker onto refl) ok.3,
+        )
+    can-make (step.Spread name source m) maker here vector =
+        let ok = valid-step (step.Spread name source m) maker in
+        let many = own.many in omega (arith, ok.0.0)
+    can-make (step.Update name x y alpha beta) maker here vector =
+        let ok = valid-step (step.Update name x y alpha beta) maker in
+        let many = own.many in (omega (arith, ok.0), omega (arith, ok.1), alike x y ok.4 ok.5)
+    can-make (step.Scale name value alpha) maker here vector = let low = valid-step (step.Scale name value alpha) maker in let many = own.many in omega (arith, low)
+    can-make (step.Print value) maker here vector = absurd (valid-step (step.Print value) maker)
+    can-make (step.Apply name a x y alpha beta transposed) maker here vector = absurd (vector)
+    can-make (step.Transpose name a) maker here vector = absurd (vector)
+    can-make (step.Multiply name a b) maker here vector = absurd (vector)
+    can-make (step.Add name a b alpha beta) maker here vector = absurd (vector)
+    can-make (step.Assemble name source onto mode) maker here vector = absurd (vector)
+
+    dense : is_dense (shape job n).sort ≡ true
+    dense = (shapes-are-on-maps job input.valid input.vectors n known).dense
+
+    nothing : IsMadeHere job n → arrivals R F job files me g n 0 ≡ []
+    nothing here = none-comes R F job files me g n here
+
+    first : (x : ℕ) → x < n → (a : VectorState S) → slice_get values x ≡ Some a → global_table a ≡ first_pieces R F job files me (arrivals R F job files me g) n x
+    first x l a at = (own.each x a at).piece ∙ sym (before n x l known)
+
+    -- cells that stay on their map stay as they are
+    kept-own : (source : ℕ) (v : VectorState S) → source < n → (shape job source).rows ≡ (shape job n).rows → (shape job source).columns ≡ (shape job n).columns
+        → ((a : VectorState S) → slice_get values source ≡ Some a → IsOnListOf a (global_table a) v × IsVector a)
+        → ((a : VectorState S) → IsVector a → a.columns ≡ (shape job n).columns → a.map ≡ list_of job (shape job source).rows me
+        → global_table a ≡ first_pieces R F job files me (arrivals R F job files me g) n source
+        → make_piece R F job files me (arrivals R F job files me g) n (first_pieces R F job files me (arrivals R F job files me g) n) ≡ global_table a)
+        → IsOwnValue R F job files me g n v
+    kept-own source v low rows columns made law =
+        let a = stands-at source low in
+        let left = own.each source a.0 a.1 in
+        let is = made a.0 a.1 in
+        record {
+          map = is.0.map ∙ left.map ∙ ap (λ m. list_of job m me) rows;
+          columns = is.0.columns ∙ left.columns ∙ columns;
+          piece = is.0.table ∙ sym (pieces_are_made R F job files me n g known ∙ law a.0 is.1 (left.columns ∙ columns) left.map (first source low a.0 a.1));
+        }
+
+    -- and those that are combined with the rank's own
+    combined-own : (source onto : ℕ) (mode : Mode) (v : VectorState S) → source < n → onto < n → (shape job n).rows ≡ (shape job onto).rows → (shape job n).columns ≡ (shape job onto).columns
+        → ((a b : VectorState S) → slice_get values source ≡ Some a → slice_get values onto ≡ Some b → IsOnListOf b (after_table R mode (global_table b) (global_table a)) v)
+        → ((a b : VectorState S) → a.map ≡ list_of job (shape job source).rows me
+        → global_table a ≡ first_pieces R F job files me (arrivals R F job files me g) n source
+        → global_table b ≡ first_pieces R F job files me (arrivals R F job files me g) n onto
+        → make_piece R F job files me (arrivals R F job files me g) n (first_pieces R F job files me (arrivals R F job files me g) n) ≡ after_table R mode (global_table b) (global_table a))
+        → IsOwnValue R F job files me g n v
+    combined-own source onto mode v low under rows columns made law =
+        let a = stands-at source low in
+        let b = stands-at onto under in
+        let left = own.each source a.0 a.1 in
+        let right = own.each onto b.0 b.1 in
+        let is = made a.0 b.0 a.1 b.1 in
+        record {
+          map = is.map ∙ right.map ∙ ap (λ m. list_of job m me) (sym rows);
+          columns = is.columns ∙ right.columns ∙ sym columns;
+          piece = is.table ∙ sym (pieces_are_made R F job files me n g known ∙ law a.0 b.0 left.map (first source low a.0 a.1) (first onto under b.0 b.1));
+        }
 
     pub step-own : (s : Step) (v : VectorState S) → maker_of job n ≡ Made s → IsMadeHere job n → IsStepPiece R F values s v → IsOwnValue R F job files me g n v
     step-own (step.Move name source m) v maker here made =
         let s = step.Move name source m in
         let ok = valid-step s maker in
-        let a = stands-at source ok.0 in
-        let left = own.each source a.0 a.1 in
-        let is = made a.0 a.1 in
-        let dense = (shapes-are-on-maps job input.valid input.vectors n known).dense in
-        let itself = on-itself R F job files me g n name source m maker dense known here in
-        let columns : (shape job source).columns ≡ (shape job n).columns = sym (ap (λ t. t.columns) (shape-is s maker)) in
-        record {
-          map = is.0.map ∙ left.map ∙ ap (λ m. list_of job m me) (itself ∙ sym (ap (λ t. t.rows) (shape-is s maker)));
-          columns = is.0.columns ∙ left.columns ∙ columns;
-          piece =
-              is.0.table
-              ∙ sym (piece-is n (Made s) known maker
-              ∙ stays-here R F job files me g n name source m maker dense known here a.0 is.1 left.map (left.columns ∙ columns) (left.piece ∙ sym (before n source ok.0 known)));
-        }
+        let rows = own-rows here source (ap copied_by maker) in
+        let target : (shape job n).rows ≡ m = ap (λ t. t.rows) (shape-is s maker) in
+        kept-own source v ok.0 rows (sym (ap (λ t. t.columns) (shape-is s maker))) made
+        (λ a whole wide on piece. local-moves-are-made R F job files n source m me (arrivals R F job files me g) a (record { name = name; is = maker; dense = dense }) (rows ∙ target) (nothing here) whole wide on piece)
+    step-own (step.Spread name source m) v maker here made =
+        let s = step.Spread name source m in
+        let ok = valid-step s maker in
+        let rows = own-rows here source (ap copied_by maker) in
+        let target : (shape job n).rows ≡ m = ap (λ t. t.rows) (shape-is s maker) in
+        kept-own source v ok.0.0 rows (sym (ap (λ t. t.columns) (shape-is s maker))) made
+        (λ a whole wide on piece. local-spreads-are-made R F job files n source m me (arrivals R F job files me g) a (record { name = name; is = maker; dense = dense }) (rows ∙ target) (nothing here) whole wide on piece)
+    step-own (step.Import name source onto mode) v maker here made =
+        let s = step.Import name source onto mode in
+        let ok = valid-step s maker in
+        let rows = onto-rows s maker onto refl in
+        combined-own source onto mode v ok.0.0 ok.1.0 rows (ap (λ t. t.columns) (shape-is s maker)) made
+        (λ a b on piece old. local-imports-are-made R F job files n source onto mode me (arrivals R F job files me g) a b (record { name = name; is = maker; dense = dense })
+        (own-rows here source (ap copied_by maker) ∙ rows) (nothing here) on piece old)
+    step-own (step.Export name source onto mode) v maker here made =
+        let s = step.Export name source onto mode in
+        let ok = valid-step s maker in
+        let rows = onto-rows s maker onto refl in
+        combined-own source onto mode v ok.0.0 ok.1.0 rows (ap (λ t. t.columns) (shape-is s maker)) made
+        (λ a b on piece old. local-exports-are-made R F job files n source onto mode me (arrivals R F job files me g) a b (record { name = name; is = maker; dense = dense })
+        (own-rows here source (ap copied_by maker) ∙ rows) (nothing here) on piece old)
     step-own (step.Update name x y alpha beta) v maker here made =
         let s = step.Update name x y alpha beta in
         let ok = valid-step s maker in
@@ -253,9 +341,6 @@ module _ {S : Type 0} (R : Semiring S) (F : Conversions S) (job : Job) (files : 
           piece = is.table ∙ ap (scaled R (number_of R F alpha)) left.piece ∙ sym (piece-is n (Made s) known maker ∙ ap (scaled R (number_of R F alpha)) (before n value ok known));
         }
     step-own (step.Print value) v maker here made = absurd (made)
-    step-own (step.Import name source onto mode) v maker here made = absurd (made)
-    step-own (step.Export name source onto mode) v maker here made = absurd (made)
-    step-own (step.Spread name source m) v maker here made = absurd (made)
     step-own (step.Apply name a x y alpha beta transposed) v maker here made = absurd (made)
     step-own (step.Transpose name a) v maker here made = absurd (made)
     step-own (step.Multiply name a b) v maker here made = absurd (made)

@@ -6,7 +6,6 @@ use Rattle.std.proofs.lemmas.Option.{slice_get-get_or}
 use Rattle.scalar_laws.specs.Semiring.{Semiring}
 use Rattle.scalar_laws.specs.Conversions.{Conversions}
 use Rattle.tables.specs.Indices.{AreBelow}
-use Rattle.tables.specs.Tables.{Table}
 use Rattle.map_core.specs.Plans.{export_list}
 use Rattle.letter_codec.specs.Letters.{letter_bytes}
 use Rattle.mm_text.specs.Reading.{File}
@@ -15,32 +14,28 @@ use Rattle.outside.specs.declared.name.Name.{Name}
 use Rattle.rank_phases.specs.Stages.{Stage, CanSend}
 use Rattle.model_defs.specs.declared.job.Job.{Job}
 use Rattle.model_defs.specs.declared.phase.Phase.{Phase}
-use Rattle.model_defs.specs.declared.phase.Plan.TheVariants.{ImportPlan}
 use Rattle.model_defs.specs.Letters.{entries_about, sent_places}
 use Rattle.model_defs.specs.Machine.{arrivals, place_bytes}
-use Rattle.model_defs.specs.Makers.{Maker}
+use Rattle.model_defs.specs.Makers.{maker_of}
 use Rattle.model_defs.specs.Maps.{list_of}
-use Rattle.model_defs.specs.Phases.{phases, send_kind, send_phase}
+use Rattle.model_defs.specs.Phases.{phases, send_kind}
 use Rattle.model_defs.specs.Plans.{sent_rows}
 use Rattle.model_defs.specs.Shapes.{shape}
-use Rattle.model_defs.specs.Stages.{entries_by, first_pieces, gathered_after, rank_entries, transfer_at}
-use Rattle.model_defs.specs.Transfers.{from_owners}
-use Rattle.rank_stages.specs.DataLaws.{IsCopied, copied_by}
+use Rattle.model_defs.specs.Stages.{first_pieces, gathered_after, rank_entries, transfer_at}
 use Rattle.rank_stages.specs.LetterLaws.{row_words, sends_numbers}
 use Rattle.rank_stages.proofs.LetterForms.{numbers_are_packed, plans_are_packed}
-use Rattle.rank_stages.proofs.SentOnce.{transfers_are_sent_once}
 use Rattle.plan_phases.specs.BookCalls.{IsSendingBook}
 use Rattle.rank_transfers.specs.Arrivals.{rows_to, table_letter}
-use Rattle.rank_transfers.proofs.Imports.{rows-are-sent}
 use Rattle.rank_transfers.proofs.JobBytes.{letters-are-content}
 use Rattle.rank_values.specs.Vectors.{global_table}
 use Rattle.rank_core.specs.declared.gathering.Gathering.{Gathering}
 use Rattle.rank_core.specs.declared.worker.JobWorker.{JobWorker}
-use Rattle.rank_core.specs.Gatherings.{IsGatheringAt, IsGatheringIn}
+use Rattle.rank_core.specs.Gatherings.{IsGatheringIn}
 use Rattle.rank_core.specs.Pieces.{AreOwnValues}
 use Rattle.rank_core.specs.Workers.{IsJobWorker}
 use Rattle.rank_core.proofs.AbsorbedWords.{words-alone}
-use Rattle.rank_core.proofs.MovedLetters.{copied, is-in, sent-in, transfer-is}
+use Rattle.rank_core.proofs.CopiedLetters.{copied, is-in, sent-in, serves}
+use Rattle.rank_core.proofs.CopyRows.{entries-copied}
 use Rattle.rank_core.proofs.OwnValues.{before}
 use Rattle.rank_core.proofs.RankNames.{listed, phase-of, posted, to-known, to-other}
 use Rattle.rank_core.proofs.SentNames.{row-goes}
@@ -100,10 +95,10 @@ module _ {S : Type 0} (R : Semiring S) (F : Conversions S) (worker : JobWorker S
     k = length worker.values.items
 
     abbrev source : ℕ
-    source = gathering.is.move.source
+    source = gathering.is.copy.source
 
     abbrev rows : ℕ
-    rows = (shape job gathering.is.move.source).rows
+    rows = (shape job gathering.is.copy.source).rows
 
     own : AreOwnValues R F worker.job.value stands.files worker.me s.absorbed (length worker.values.items) worker.values.items
     own =
@@ -111,20 +106,20 @@ module _ {S : Type 0} (R : Semiring S) (F : Conversions S) (worker : JobWorker S
         worker.values.items stands.values
 
     pub source-known : g.source < length worker.values.items
-    source-known = subst (λ n. n < length worker.values.items) (sym gathering.is.source) gathering.is.move.before
+    source-known = subst (λ n. n < length worker.values.items) (sym gathering.is.source) gathering.is.copy.before
 
-    at_source : slice_get worker.values.items gathering.is.move.source ≡ Some x
+    at_source : slice_get worker.values.items gathering.is.copy.source ≡ Some x
     at_source =
         ap (slice_get worker.values.items) (sym gathering.is.source) ∙ slice_get-get_or worker.values.items g.source x source-known ∙ ap (λ v. Some v) (sym is)
 
-    on_list : x.map ≡ list_of worker.job.value (shape worker.job.value gathering.is.move.source).rows worker.me
+    on_list : x.map ≡ list_of worker.job.value (shape worker.job.value gathering.is.copy.source).rows worker.me
     on_list = (own.each source x at_source).map
 
     many-columns : x.columns ≡ (shape worker.job.value (length worker.values.items)).columns
-    many-columns = (own.each source x at_source).columns ∙ sym gathering.is.move.same_columns
+    many-columns = (own.each source x at_source).columns ∙ sym gathering.is.copy.same_columns
 
     pub to-rank : name.to < g.arriving.plan.ranks
-    to-rank = subst (λ n. name.to < n) (sym gathering.is.plan.ranks) to-there
+    to-rank = subst (λ n. name.to < n) (sym (serves R F worker s stands g some).ranks) to-there
 
     pub same-columns : x.columns ≡ g.arriving.vector.columns
     same-columns = many-columns ∙ sym gathering.is.columns
@@ -137,31 +132,23 @@ module _ {S : Type 0} (R : Semiring S) (F : Conversions S) (worker : JobWorker S
 
     pub some-row : 1 ≤ length (export_list g.arriving.plan name.to)
     some-row =
-        row-goes job stands.files worker.me name.phase gathering.phase at_phase gathering.about k gathering.value gathering.is.move g.arriving.plan gathering.is.plan stands.worker_of.input.rank
+        row-goes job stands.files worker.me name.phase gathering.phase at_phase gathering.about k gathering.value gathering.is.copy g.arriving.plan gathering.is.plan stands.worker_of.input.rank
         name (send.from ∙ stands.worker_of.rank) to-there (posted R F job stands.files stands.view s stands.book.stage name send.named)
 
-    sent : (rows_to g.arriving.plan (list_of worker.job.value (shape worker.job.value gathering.is.move.source).rows worker.me) name.to
-        ≡ sent_rows worker.job.value stands.files (from_owners (ImportPlan (shape worker.job.value gathering.is.move.source).rows gathering.is.move.target)) worker.me name.to)
-        × AreBelow (length (list_of worker.job.value (shape worker.job.value gathering.is.move.source).rows worker.me)) (export_list g.arriving.plan name.to)
-    sent = rows-are-sent job stands.files rows gathering.is.move.target worker.me name.to g.arriving.plan gathering.is.plan to-there
-
     pub sources-below : AreBelow (length x.map) (export_list g.arriving.plan name.to)
-    sources-below = subst (λ m. AreBelow (length m) (export_list g.arriving.plan name.to)) (sym on_list) sent.1
+    sources-below = subst (λ m. AreBelow (length m) (export_list g.arriving.plan name.to)) (sym on_list) ((serves R F worker s stands g some).below name.to to-there)
 
     rows-are : rows_to g.arriving.plan x.map name.to ≡ sent_rows worker.job.value stands.files (transfer_at worker.job.value (length worker.values.items) 0) worker.me name.to
-    rows-are = ap (λ m. rows_to g.arriving.plan m name.to) on_list ∙ sent.0 ∙ ap (λ t. sent_rows job stands.files t worker.me name.to) (sym (transfer-is R F worker s stands g some))
+    rows-are = ap (λ m. rows_to g.arriving.plan m name.to) on_list ∙ (serves R F worker s stands g some).sent name.to to-there
 
-    -- its entries are those of the value that moves
-    abbrev entries_of : ℕ → Maker → Table S
-    entries_of p m =
-        entries_by R F job stands.files p k (transfer_at job k 0).way 0 (first_pieces R F job stands.files p (arrivals R F job stands.files p s.absorbed) k)
-        (gathered_after R F job stands.files p (arrivals R F job stands.files p s.absorbed) k (first_pieces R F job stands.files p (arrivals R F job stands.files p s.absorbed) k) 0) m
-
+    -- its entries are the cells of the source
     entries-are : global_table x ≡ rank_entries R F worker.job.value stands.files worker.me (arrivals R F worker.job.value stands.files worker.me s.absorbed) (length worker.values.items) 0
     entries-are =
         (own.each source x at_source).piece
-        ∙ sym (before R F job stands.files worker.me worker.share stands.worker_of.input s.absorbed k source gathering.is.move.before gathering.is.move.below)
-        ∙ ap (entries_of worker.me) (sym gathering.is.move.is)
+        ∙ sym (before R F job stands.files worker.me worker.share stands.worker_of.input s.absorbed k source gathering.is.copy.before gathering.is.copy.below)
+        ∙ sym (entries-copied R F job stands.files worker.me k (transfer_at job k 0).way 0 (first_pieces R F job stands.files worker.me (arrivals R F job stands.files worker.me s.absorbed) k)
+        (gathered_after R F job stands.files worker.me (arrivals R F job stands.files worker.me s.absorbed) k (first_pieces R F job stands.files worker.me (arrivals R F job stands.files worker.me s.absorbed) k) 0)
+        (maker_of job k) source gathering.is.copy.copied)
 
     pub rows-content : table_letter R F x.columns (global_table x) (rows_to g.arriving.plan x.map name.to) ≡ s.protocol.content name s.absorbed
     rows-content =

@@ -10,17 +10,15 @@ use Rattle.multivector.specs.Vectors.{VectorState}
 use Rattle.rank_phases.specs.Stages.{Stage, entering}
 use Rattle.model_defs.specs.declared.job.Job.{Job}
 use Rattle.model_defs.specs.declared.phase.Phase.{Phase}
-use Rattle.model_defs.specs.declared.job.Step.TheVariants as step
 use Rattle.model_defs.specs.Machine.{arrivals, piece}
-use Rattle.model_defs.specs.Makers.{Made}
-use Rattle.model_defs.specs.Maps.{list_of}
 use Rattle.model_defs.specs.Phases.{phases, send_phase}
-use Rattle.model_defs.specs.Stages.{first_pieces, gathered_after}
+use Rattle.model_defs.specs.Stages.{first_pieces, gathered_after, stage_count}
 use Rattle.rank_stages.specs.JobStages.{HasValues, IsJobStage, IsOpen, about_at, gathered_so_far}
 use Rattle.rank_stages.specs.Views.{View}
-use Rattle.rank_stages.proofs.MadeValues.{first_values_are_made}
+use Rattle.rank_stages.proofs.MadeValues.{first_values_are_made, pieces_are_made}
 use Rattle.rank_stages.proofs.SendPhases.{send-phase-is, sent-about}
 use Rattle.rank_stages.proofs.SentOnce.{transfers_are_sent_once}
+use Rattle.rank_transfers.proofs.Local.{copies-are-gathered}
 use Rattle.rank_values.specs.Vectors.{global_table}
 use Rattle.vector_jobs.specs.VectorPhases.{HasVectorPhases}
 use Rattle.rank_share.specs.declared.share.Share.{Share}
@@ -30,7 +28,6 @@ use Rattle.rank_core.specs.Inputs.{IsRankInput}
 use Rattle.rank_core.specs.Pieces.{AreOwnValues, IsArrived, IsMadeHere, IsOwnValue, made_count, tables_of}
 use Rattle.rank_core.specs.Workers.{HasVectors}
 use Rattle.rank_core.proofs.Counted.{count-above, count-grows, made-here, made-made, next-open}
-use Rattle.rank_core.proofs.OwnValues.{piece-is}
 
 -- what a phase of the list is about
 pub about-of : (job : Job) (list : List Phase) (n : ℕ) (x : Phase) → list ≡ phases job → n < length list → x ≡ get_or list n x → about_at job n ≡ Some x.about
@@ -89,18 +86,20 @@ module _ {S : Type 0} (R : Semiring S) (F : Conversions S) (job : Job) (files : 
   -- the vector that came is the piece of the next value
   pub gathered-own : (k : ℕ) (g : Gathering S) → IsGatheringIn job files me s.entered k view.gathered g → IsOwnValue R F job files me s.absorbed k g.arriving.vector
   gathered-own k g is =
-      let move = is.is.move in
+      let copy = is.is.copy in
+      let came = arrivals R F job files me s.absorbed in
       let sent : send_phase job k 0 ≡ Some is.number = ap (λ v. send_phase job v 0) (sym is.value) ∙ transfers_are_sent_once job is.number 0 is.phase is.at is.about in
       let last = is.last in
       let open_so : IsOpen job s.entered k = record { stage = 0; phase = is.number; sends = sent; not_left = omega arith } in
+      let mine = first_pieces R F job files me came k in
+      let made = copies-are-gathered R F job files k copy.source me mine (gathered_after R F job files me came k mine (stage_count job k)) copy.copied in
       record {
-        map = is.is.map ∙ ap (λ m. list_of job m me) (sym move.on_target);
+        map = is.is.map;
         columns = is.is.columns;
         piece =
             sym is.is.table ∙ stage.gathered k 0 is.number sent (omega arith) open_so
             ∙ ap (λ p. gathered_so_far R F job files p s.absorbed k 0) rank
-            ∙ sym (piece-is R F job files me share input s.absorbed k (Made (step.Move move.name move.source move.target)) move.below move.is
-            ∙ ap (gathered_after R F job files me (arrivals R F job files me s.absorbed) k (first_pieces R F job files me (arrivals R F job files me s.absorbed) k)) (ap length move.transfers));
+            ∙ sym (pieces_are_made R F job files me k s.absorbed copy.below ∙ made.1 ∙ ap (gathered_after R F job files me came k mine) made.0);
       }
 
   -- ---- what is made in a step

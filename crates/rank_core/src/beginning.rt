@@ -1,17 +1,19 @@
-//! How a value that moves is begun.
-ghost use Rattle.std.specs.Prelude.{◌≡◌, List, IfOk};
-ghost use Rattle.byte_pool.specs.Leases.{leases};
+//! How a value is begun that is made of the cells of another one.
+ghost use Rattle.std.specs.Prelude.{◌≡◌, ◌<◌, ℕ, None, Some, List, IfOk, length, slice_get};
 ghost use Rattle.mm_text.specs.Reading.{File};
-ghost use Rattle.vector_jobs.specs.VectorPhases.{IsMove};
+ghost use Rattle.model_defs.specs.Makers.{Made};
+ghost use Rattle.model_defs.specs.Maps.{has_index, list_of};
+ghost use Rattle.model_defs.specs.Operations.{filled};
+ghost use Rattle.model_defs.specs.Valid.{IsValid};
+ghost use Rattle.rank_values.specs.Vectors.{global_table};
+ghost use Rattle.vector_jobs.specs.VectorPhases.{onto_of};
 ghost use Rattle.rank_core.specs.Begun.{CanGather, begun_table};
 ghost use Rattle.rank_core.specs.Gatherings.{IsGathering};
 
 use crate::Gathering;
-use byte_pool::Pool;
-use combine_modes::Mode;
-use model_defs::{Job, Plan, Shape, Step};
+use crate::copying::{copying_step, mode_of, onto_of, plan_of, source_of};
+use model_defs::{Job, Shape, Step};
 use multivector::MultiVector;
-use phase_list::{MadeBy, maker_at};
 use rank_plans::PlanBook;
 use rank_share::own_map;
 use rank_transfers::Arriving;
@@ -19,19 +21,35 @@ use rank_values::vector_of_lines;
 use scalar_laws::Scalar;
 use std::alloc::{AllocError, Global};
 
-/// The value that moves to become value k, and the map to which it moves.
-fn move_of(job: &Job, k: usize) -> (usize, u32)
-    requires moves { IsMove job.now k }
-    ensures found { (is : IsMove job.now k) → (result.0 ≡ is.source) × (result.1 ≡ is.target) }
+/// What the cells are combined with of a value of this shape: the rank's piece of the value that the statement names, or zeros.
+/// `Err` means that memory ran out.
+fn onto_vector<S: Scalar>(
+    alloc: Global,
+    job: &Job,
+    me: u32,
+    shape: Shape,
+    values: &[MultiVector<S>],
+    step: &Step,
+) -> Result<MultiVector<S>, AllocError>
+    requires valid { IsValid job.now }
+    requires rank { me < job.now.ranks }
+    requires known { shape.rows < length job.now.maps }
+    requires before { (onto : ℕ) → onto_of (Made step.now) ≡ Some onto → onto < length values.now }
+    ensures zeros { IfOk result (λ v. onto_of (Made step.now) ≡ None → (v.map ≡ list_of job.now shape.rows me) × ((v.columns ≡ shape.columns)
+        × (global_table v ≡ filled (has_index job.now shape.rows me) shape.columns S.semiring.nought))) }
+    ensures piece { IfOk result (λ v. (onto : ℕ) → onto_of (Made step.now) ≡ Some onto → slice_get values.now onto ≡ Some v) }
 {
-    match maker_at(job, k) {
-        MadeBy::Statement(Step::Move { from, map, .. }) => (*from as usize, *map),
-        _ => unreachable!(),
+    match onto_of(step) {
+        Some(onto) => values[onto].copy(),
+        None => {
+            let map = own_map(alloc, job, shape.rows, me)?;
+            vector_of_lines(alloc, map, shape.columns, &[])
+        }
     }
 }
 
-/// Begins value k, which moves: its rows that stay on the rank are there. In the pool room is made for the letters to other
-/// ranks. All leases stay. `Err` means that memory ran out.
+/// Begins value k, which is made of the cells of another one: its rows that stay on the rank are there, combined as the statement
+/// says. `Err` means that memory ran out.
 pub(crate) fn begin_gathering<S: Scalar>(
     alloc: Global,
     job: &Job,
@@ -40,20 +58,17 @@ pub(crate) fn begin_gathering<S: Scalar>(
     book: &PlanBook,
     values: &[MultiVector<S>],
     k: usize,
-    pool: &mut Pool,
 ) -> Result<Gathering<S>, AllocError>
     requires can { (files : List File) × CanGather job.now files me shapes.now book.now values.now k }
     ensures begun { IfOk result (λ g. (files : List File) (can : CanGather job.now files me shapes.now book.now values.now k)
-        → IsGathering job.now files me k (begun_table S.semiring job.now me k can.move.target can.plan can.source) g) }
-    ensures leases { leases pool.new ≡ leases pool.old }
+        → IsGathering job.now files me k (begun_table S.semiring job.now me k values.now can.plan can.source) g) }
 {
-    let (source, target) = move_of(job, k);
-    let plan = Plan::ImportPlan {
-        source: shapes[source].rows,
-        target,
-    };
-    let x = &values[source];
-    let zeros = vector_of_lines(alloc, own_map(alloc, job, target, me)?, x.columns(), &[])?;
-    let arriving = Arriving::begin(book.plan(plan).share()?, x, zeros, Mode::Replace, pool)?;
+    let step = copying_step(job, k);
+    let source = source_of(step);
+    let shape = shapes[k];
+    let plan = plan_of(step, shapes[source].rows, shape.rows);
+    let onto = onto_vector(alloc, job, me, shape, values, step)?;
+    let kept = book.plan(plan).share()?;
+    let arriving = Arriving::begin(kept, &values[source], onto, mode_of(step))?;
     Ok(Gathering { source, arriving })
 }

@@ -1,11 +1,11 @@
-//! A value that moves to another map: its rows come from their owners.
+//! A value that is made of the cells of another one on another map: its rows come from other ranks.
 ghost use Rattle.std.specs.Prelude.{◌≡◌, option_map};
 
 use multivector::MultiVector;
 use rank_transfers::Arriving;
 use scalar_laws::Scalar;
 
-/// A value in the making that moves: the number of the value of which its rows are, and what came so far.
+/// Such a value in the making: the number of the value of which its rows are, and what came so far.
 #[derive(Drop)]
 pub struct Gathering<S> {
     pub(crate) source: usize,

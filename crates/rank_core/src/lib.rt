@@ -5,9 +5,11 @@
 //! its results, are what the protocol of the job (`model_defs`) says of the letters given to it. `specs/Ranks` says what
 //! contracts see of a rank.
 //!
-//! By now a rank carries out jobs of vectors: vectors and parts, `move`, `update`, `scale` and `print`. A value that moves is
-//! made in phases: maps are registered, owners are asked for and told, each rank says what it lacks, and its numbers come
-//! (`Tpetra::Import`). All other values are made without letters, as soon as those before them are there.
+//! By now a rank carries out jobs of vectors: vectors and parts, `move`, `import`, `spread`, `export`, `update`, `scale` and
+//! `print`. A value that is made of another one's cells on another map is made in phases: maps are registered, owners are asked
+//! for and told, each rank says what it lacks or what it has for others, and its numbers come (`Tpetra::Import`,
+//! `Tpetra::Export`). They are combined in the order in which the letters come. All other values are made without letters, as
+//! soon as those before them are there.
 //!
 //! ```text
 //! let share = share_of(alloc, &job, &files, me)?;
@@ -23,6 +25,8 @@
 #![tactic(auto)]
 
 mod beginning;
+mod combining;
+mod copying;
 mod counts;
 mod gathering;
 mod making;

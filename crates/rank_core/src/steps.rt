@@ -4,6 +4,7 @@ ghost use Rattle.model_defs.specs.FileMatrix.{number_of};
 ghost use Rattle.multivector.specs.Vectors.{IsVector};
 ghost use Rattle.rank_core.specs.Steps.{CanMake, IsStepPiece};
 
+use crate::combining::combined_vector;
 use model_defs::Step;
 use multivector::MultiVector;
 use rank_values::{number_of, scaled_vector, sum_of_vectors};
@@ -26,8 +27,8 @@ fn same_vector<S: Scalar>(x: &MultiVector<S>) -> Result<MultiVector<S>, AllocErr
     x.copy()
 }
 
-/// The piece of the value that a statement makes of those before it. A value that moves stays on its map. `Err` means that
-/// memory ran out.
+/// The piece of the value that a statement makes of those before it. Cells that are moved, imported, exported or spread stay on
+/// their map. `Err` means that memory ran out.
 pub(crate) fn step_piece<S: Scalar>(
     values: &[MultiVector<S>],
     step: &Step,
@@ -36,7 +37,19 @@ pub(crate) fn step_piece<S: Scalar>(
     ensures piece { IfOk result (IsStepPiece S.semiring S.conversions values.now step.now) }
 {
     match step {
-        Step::Move { from, .. } => same_vector(&values[*from as usize]),
+        Step::Move { from, .. } | Step::Spread { from, .. } => same_vector(&values[*from as usize]),
+        Step::Import {
+            from,
+            onto,
+            mode,
+            ..
+        }
+        | Step::Export {
+            from,
+            onto,
+            mode,
+            ..
+        } => combined_vector(&values[*from as usize], &values[*onto as usize], *mode),
         Step::Update {
             x,
             y,
@@ -51,9 +64,6 @@ pub(crate) fn step_piece<S: Scalar>(
         ),
         Step::Scale { value, alpha, .. } => scaled_vector(factor(*alpha), &values[*value as usize]),
         Step::Print { .. }
-        | Step::Import { .. }
-        | Step::Export { .. }
-        | Step::Spread { .. }
         | Step::Apply { .. }
         | Step::Transpose { .. }
         | Step::Multiply { .. }

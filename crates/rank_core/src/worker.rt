@@ -168,18 +168,12 @@ impl<S: Scalar> JobWorker<S> {
     }
 
     /// Enters a phase that sends the numbers of value k.
-    fn enter_numbers(
-        &mut self,
-        phase: u32,
-        k: usize,
-        pool: &mut Pool,
-    ) -> Result<Entered, AllocError>
+    fn enter_numbers(&mut self, phase: u32, k: usize) -> Result<Entered, AllocError>
         requires ready { (s : Stage) × (IsReady S.semiring S.conversions self.old s × CanEnter s phase) }
         requires next { (next : Phase) × ((slice_get (phases self.old.job.value) phase ≡ Some next) × ((next.value ≡ k) × (sends_numbers next.about ≡ true))) }
         ensures posts { IfOk result (λ e. (s : Stage) → IsReady S.semiring S.conversions self.old s → CanEnter s phase → e.posts.items ≡ names_from s.protocol.names phase s.rank) }
         ensures awaits { IfOk result (λ e. (s : Stage) → IsReady S.semiring S.conversions self.old s → CanEnter s phase → e.awaits.items ≡ names_to s.protocol.names phase s.rank) }
         ensures enters { OnOk result ((s : Stage) → IsReady S.semiring S.conversions self.old s → CanEnter s phase → IsJobWorker S.semiring S.conversions self.new (entering s)) }
-        ensures same_leases { leases pool.new ≡ leases pool.old }
     {
         let gathering = begin_gathering(
             self.alloc,
@@ -189,7 +183,6 @@ impl<S: Scalar> JobWorker<S> {
             &self.book,
             &self.values,
             k,
-            pool,
         )?;
         let ranks = self.job.ranks;
         let entered = row_letters(self.alloc, ranks, phase, self.me, &gathering.arriving)?;
@@ -211,7 +204,7 @@ impl<S: Scalar> JobWorker<S> {
                 awaits: Vec::new(self.alloc),
             }),
             Some(next) => match next.about {
-                About::SendNumbers { .. } => self.enter_numbers(phase, next.value, pool),
+                About::SendNumbers { .. } => self.enter_numbers(phase, next.value),
                 about => self.enter_plan(phase, about),
             },
         }
@@ -269,11 +262,11 @@ impl<S: Scalar> JobWorker<S> {
         ensures { OnOk result ((s : Stage) → IsJobWorker S.semiring S.conversions self.old s → CanAbsorb s name bytes.now
             → IsJobWorker S.semiring S.conversions self.new (absorbing s ((name, bytes.now) ∷ []))) }
     {
-        let Some(mut gathering) = self.gathering.take() else {
+        let Some(mut coming) = self.gathering.take() else {
             unreachable!();
         };
-        gathering.arriving.absorb(name.from, bytes)?;
-        self.gathering = Some(gathering);
+        coming.arriving.absorb(name.from, bytes)?;
+        self.gathering = Some(coming);
         self.counts.put(name, entries_of_letter(bytes))
     }
 }

@@ -44,11 +44,11 @@ use Rattle.model_defs.proofs.Filters.{both, same_name-true}
 use Rattle.model_defs.proofs.Protocols.{jobs_are_protocols}
 use Rattle.model_defs.proofs.Runs.{all-known}
 use Rattle.job_phases.specs.Laws.{phase_at}
-use Rattle.rank_stages.specs.DataLaws.{IsCopied, copied_by}
+use Rattle.rank_stages.specs.DataLaws.{IsCopied}
 use Rattle.rank_stages.specs.LetterLaws.{kind_about, sends_numbers}
 use Rattle.rank_stages.proofs.Copies.{data-letter, kind-is}
 use Rattle.rank_stages.proofs.LetterForms.{packed, phase-at, phases_have_kinds, plan-letter}
-use Rattle.vector_jobs.specs.VectorPhases.{HasVectorPhases, IsMove}
+use Rattle.vector_jobs.specs.VectorPhases.{HasVectorPhases, IsCopy}
 use Rattle.vector_jobs.proofs.VectorLists.{vector-jobs-have-phases}
 use Rattle.rank_core.specs.declared.rank.Rank.{Rank}
 use Rattle.rank_core.specs.Results.{HasEntries, IsEntriesGiven, letter_given}
@@ -151,33 +151,33 @@ module _ {S : Type 0} (R : Semiring S) (F : Conversions S) (FL : AreConversions 
   sent-words phase t at about = subst HasEntryWords (sym whole) (record {
     numbers = numbers;
     whole = ap (λ x. letter_of_phase R F job files x n before) (phase-at (phases job) n.phase no_phase phase at ∙ whole);
-    letter = data-letter job files k move.source copied n.from n.to numbers many;
+    letter = data-letter job files k copy.source copied n.from n.to numbers many;
     plain = refl;
   })
     where
       k : ℕ
       k = phase.value
 
-      moved : (t ≡ 0) × IsMove job k
-      moved = has.moves n.phase phase t at about
+      sent : (t ≡ 0) × IsCopy job k
+      sent = has.copies n.phase phase t at about
 
-      move : IsMove job k
-      move = moved.1
+      copy : IsCopy job k
+      copy = sent.1
 
-      copied : IsCopied job files k move.source
+      copied : IsCopied job files k copy.source
       copied = record {
         valid = valid;
         fitting = fit;
-        below = move.below;
-        is = ap copied_by move.is;
-        dense = (has.shapes move.source (let b = move.below in let s = move.before in omega arith)).dense;
+        below = copy.below;
+        is = copy.copied;
+        dense = (has.shapes copy.source (let b = copy.below in let s = copy.before in omega arith)).dense;
       }
 
       kind : phase.kind ≡ Nums
-      kind = phases_have_kinds job n.phase phase at ∙ ap (kind_about job k) about ∙ kind-is job files k move.source copied
+      kind = phases_have_kinds job n.phase phase at ∙ ap (kind_about job k) about ∙ kind-is job files k copy.source copied
 
       whole : phase ≡ record { kind = Nums; value = k; about = SendNumbers 0 }
-      whole = λ i. record { kind = kind i; value = k; about = (about ∙ ap SendNumbers moved.0) i }
+      whole = λ i. record { kind = kind i; value = k; about = (about ∙ ap SendNumbers sent.0) i }
 
       before : List Letter
       before = only (names_before n (letter_names job files)) given

@@ -1,4 +1,3 @@
-pub mod Freed
 pub mod Packed
 pub mod Found
 pub mod Came

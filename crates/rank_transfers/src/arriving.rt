@@ -45,13 +45,12 @@ impl<S: Scalar> Arriving<S> {
     /// the two, it sends at most 2^40 rows to a rank, and the positions that it has for the rows of a rank are those of
     /// `target`, none of them twice.
     ///
-    /// In the pool a block is reserved for each letter that the plan has. All leases stay. `Err` means that memory ran out.
+    /// `Err` means that memory ran out.
     pub fn begin(
         plan: Plan,
         source: &MultiVector<S>,
         target: MultiVector<S>,
         mode: Mode,
-        pool: &mut Pool,
     ) -> Result<Arriving<S>, AllocError>
         requires columns { source.now.columns ≡ target.columns }
         requires some_column { 1 ≤ target.columns }
@@ -63,10 +62,9 @@ impl<S: Scalar> Arriving<S> {
         ensures mode { IfOk result (λ a. a.mode ≡ mode) }
         ensures shape { IfOk result (λ a. HasSameShape target a.vector) }
         ensures rows { IfOk result (λ a. global_table a.vector ≡ after_table S.semiring mode (global_table target) (own_rows plan source.now)) }
-        ensures leases { leases pool.new ≡ leases pool.old }
     {
         let kept = plan.share()?;
-        let transfer = vector_moves::ready(source, plan, pool)?;
+        let transfer = vector_moves::for_vectors(source, plan);
         let mut vector = target;
         vector_moves::local(&transfer, source, &mut vector, mode);
         Ok(Arriving {

@@ -6,7 +6,7 @@
 //! are those of a table at the places of these rows. Of a letter that comes only its rows are known; its numbers may be any.
 //!
 //! ```text
-//! let mut arriving = Arriving::begin(plan, &x, zeros, Mode::Replace, &mut pool)?;
+//! let mut arriving = Arriving::begin(plan, &x, zeros, Mode::Replace)?;
 //! for q in 0..ranks {
 //!     if arriving.has_letter_to(q) {
 //!         send(q, arriving.pack(&x, q, &mut pool)?);

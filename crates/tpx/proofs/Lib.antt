@@ -8,3 +8,4 @@ pub mod Outputs
 pub mod RunCalls
 pub mod Ended
 pub mod Examples
+mod ModeExamples

@@ -11,6 +11,10 @@
 //! ```
 #![tactic(auto)]
 
+#[cfg(test)]
+mod conflict_tests;
+#[cfg(test)]
+mod export_tests;
 mod fault;
 mod messages;
 #[cfg(test)]

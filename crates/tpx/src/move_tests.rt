@@ -22,6 +22,10 @@ const Z_TO_CYCLIC: &str = "[[do]]\nop = \"move\"\nname = \"z\"\nfrom = \"x\"\nma
 
 const PRINT_Y: &str = "[[do]]\nop = \"print\"\nvalue = \"y\"\n";
 
+/// The letters of the move of x from the uniform to the cyclic map.
+const TRAFFIC_TO_CYCLIC: &str =
+    "traffic 2 4\nphase 0 WANT y\nletter 0 0 1 1\nletter 0 1 0 1\nphase 1 DATA y\nletter 1 0 1 1\nletter 1 1 0 1\n";
+
 /// The job that moves x from the uniform to the cyclic map, and prints it.
 pub fn to_cyclic(alloc: Global) -> Result<String, AllocError> {
     format!(in alloc; "{X_ON_UNIFORM}{Y_TO_CYCLIC}{PRINT_Y}")
@@ -114,21 +118,40 @@ fn what_is_sent_is_what_the_wire_gives(rt: HostRuntime) -> Result<(), Fail> {
 }
 
 #[test]
-fn a_wire_may_fail_at_each_call(rt: HostRuntime) -> Result<(), Fail> {
+fn letters_that_are_delivered_again_change_nothing(rt: HostRuntime) -> Result<(), Fail> {
     let alloc = rt.alloc();
-    let mut files = files_of(alloc, &to_cyclic(alloc)?, X, "")?;
-    // Four letters are posted, and four are taken.
-    for call in 0..9 {
+    let job = to_cyclic(alloc)?;
+    let words = ["run", "j.toml", "--schedule", "s", "--traffic"];
+    let schedule = "0 0 1\n0 0 1\n1 1 0\n0 1 0\n0 0 1\n1 1 0\n1 0 1\n1 0 1\n1 1 0\n";
+    let ran = run_job(alloc, &words, &job, X, schedule)?;
+    let text = format!(in alloc; "{X}{TRAFFIC_TO_CYCLIC}")?;
+    expect(&rt, &ran, 0, text.as_bytes(), b"");
+    Ok(())
+}
+
+/// The run ends alike at each call of the wire that fails, of this many. Where none fails it prints x.
+fn expect_faults(rt: &impl Abort, alloc: Global, job: &str, calls: u64) -> Result<(), Fail> {
+    let mut files = files_of(alloc, job, X, "")?;
+    for call in 0..calls {
         let mut wire = MailRoom::new(alloc);
         wire.fail_at(&[call])?;
         let ran = run_on(alloc, &["run", "j.toml"], &mut files, &mut wire, 1000)?;
-        if call < 8 {
-            expect(&rt, &ran, 9, b"", b"tpx: wire failed\n");
-        } else {
-            expect(&rt, &ran, 0, X.as_bytes(), b"");
-        }
+        expect(rt, &ran, 9, b"", b"tpx: wire failed\n");
     }
+    let mut wire = MailRoom::new(alloc);
+    wire.fail_at(&[calls])?;
+    let ran = run_on(alloc, &["run", "j.toml"], &mut files, &mut wire, 1000)?;
+    expect(rt, &ran, 0, X.as_bytes(), b"");
     Ok(())
+}
+
+#[test]
+fn a_wire_may_fail_at_each_call(rt: HostRuntime) -> Result<(), Fail> {
+    let alloc = rt.alloc();
+    // Four letters are posted and taken, and where owners are asked for ten.
+    expect_faults(&rt, alloc, &to_cyclic(alloc)?, 8)?;
+    let from_cyclic = format!(in alloc; "{X_ON_CYCLIC}{Y_TO_UNIFORM}{PRINT_Y}")?;
+    expect_faults(&rt, alloc, &from_cyclic, 20)
 }
 
 /// The run lists this traffic behind the text of x.
@@ -142,9 +165,7 @@ fn expect_traffic(rt: &impl Abort, alloc: Global, job: &str, traffic: &str) -> R
 #[test]
 fn a_second_move_takes_the_plan_of_the_first(rt: HostRuntime) -> Result<(), Fail> {
     let alloc = rt.alloc();
-    let once =
-        "traffic 2 4\nphase 0 WANT y\nletter 0 0 1 1\nletter 0 1 0 1\nphase 1 DATA y\nletter 1 0 1 1\nletter 1 1 0 1\n";
-    expect_traffic(&rt, alloc, &to_cyclic(alloc)?, once)?;
+    expect_traffic(&rt, alloc, &to_cyclic(alloc)?, TRAFFIC_TO_CYCLIC)?;
     let twice =
         "traffic 3 6\nphase 0 WANT y\nletter 0 0 1 1\nletter 0 1 0 1\nphase 1 DATA y\nletter 1 0 1 1\nletter 1 1 0 1\nphase 2 DATA z\nletter 2 0 1 1\nletter 2 1 0 1\n";
     let job = format!(in alloc; "{X_ON_UNIFORM}{Y_TO_CYCLIC}{Z_TO_CYCLIC}{PRINT_Y}")?;

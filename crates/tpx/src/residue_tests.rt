@@ -5,6 +5,7 @@ ghost use Rattle.model_defs.specs.Fitting.{IsFitting};
 ghost use Rattle.model_defs.specs.Valid.{IsValid};
 ghost use Rattle.vector_jobs.specs.VectorJobs.{IsVectorJob};
 
+use crate::export_tests::there_and_back;
 use crate::move_tests::to_cyclic;
 use crate::test_runs::files_of;
 use outside::MailRoom;
@@ -63,5 +64,15 @@ fn a_job_runs_on_residues(rt: HostRuntime) -> Result<(), Fail> {
 fn residues_are_moved(rt: HostRuntime) -> Result<(), Fail> {
     let values = residues_of(rt.alloc(), &to_cyclic(rt.alloc())?)?;
     assert_eq!(rt; values.as_slice(), [1, 999, 0].as_slice());
+    Ok(())
+}
+
+#[test]
+fn residues_are_exported(rt: HostRuntime) -> Result<(), Fail> {
+    let alloc = rt.alloc();
+    let values = residues_of(alloc, &there_and_back(alloc, "999", "add")?)?;
+    assert_eq!(rt; values.as_slice(), [0, 1, 0].as_slice());
+    let values = residues_of(alloc, &there_and_back(alloc, "999", "absmax")?)?;
+    assert_eq!(rt; values.as_slice(), [999, 999, 999].as_slice());
     Ok(())
 }

@@ -59,6 +59,32 @@ pub fn run_job(
     run_on(alloc, texts, &mut files, &mut MailRoom::new(alloc), 1000)
 }
 
+/// The array text of one column that these sizes and numbers make, a line each.
+pub fn array_text(alloc: Global, lines: &str) -> Result<String, AllocError> {
+    format!(in alloc; "%%MatrixMarket matrix array integer general\n{lines}")
+}
+
+/// Runs the words over a job, a schedule, and files of parts: `p0`, `p1`, .. are the array texts of these lines.
+pub fn run_parts<W: Wire>(
+    alloc: Global,
+    texts: &[&str],
+    job: &str,
+    parts: &[&str],
+    schedule: &str,
+    wire: &mut W,
+) -> Result<Ran, AllocError>
+    requires nothing_pending { (name : Name) → W.pending wire.old name ≡ None }
+{
+    let mut files = files_of(alloc, job, X, schedule)?;
+    let mut rank = 0u32;
+    for lines in parts {
+        let name = format!(in alloc; "p{rank}")?;
+        files.put(&name, array_text(alloc, lines)?.as_bytes())?;
+        rank = rank.wrapping_add(1);
+    }
+    run_on(alloc, texts, &mut files, wire, 1000)
+}
+
 /// The run ended with this status, this text and this message.
 pub fn expect(rt: &impl Abort, ran: &Ran, status: u8, text: &[u8], message: &[u8]) {
     assert_eq!(rt; ran.status, status);

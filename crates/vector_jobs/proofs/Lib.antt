@@ -1,3 +1,4 @@
+pub mod Copies
 pub mod VectorMakers
 pub mod VectorActs
 pub mod VectorLists

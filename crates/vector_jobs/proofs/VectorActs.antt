@@ -1,36 +1,38 @@
--- What the ranks do together for the values of a job of vectors: for one that moves they make a plan and send its numbers.
-use Rattle.std.proofs.Common.{◌≡◌, ℕ, zero, suc, ◌<◌, ◌≤◌, ◌+◌, Bool, true, false, cond, ◌||◌, eqb, List, [], ◌∷◌, ◌++◌, length, refl, sym, ap, ◌∙◌, subst, arith}
+-- What the ranks do together for the values of a job of vectors: for one that is made of the cells of another they make a plan
+-- and send its numbers.
+use Rattle.std.proofs.Common.{◌≡◌, ℕ, zero, suc, ◌<◌, ◌≤◌, ◌+◌, inl, inr, Bool, true, false, cond, ◌||◌, eqb, List, [], ◌∷◌, ◌++◌, length, refl, sym, ap, ◌∙◌, subst, arith}
 use Rattle.std.specs.List.{list_any, flat_map}
 use Rattle.std.proofs.lemmas.Bool.{eq-eqb}
 use Rattle.tables.specs.Indices.{count_from}
 use Rattle.model_defs.specs.declared.job.Job.{Job}
+use Rattle.model_defs.specs.declared.job.Step.{Step}
 use Rattle.model_defs.specs.declared.job.Step.TheVariants as step
-use Rattle.model_defs.specs.declared.phase.Plan.{Plan}
-use Rattle.model_defs.specs.declared.phase.Plan.TheVariants.{ImportPlan}
+use Rattle.model_defs.specs.declared.phase.Plan.TheVariants.{ImportPlan, ExportPlan}
+use Rattle.model_defs.specs.declared.phase.Transfer.{Transfer}
 use Rattle.model_defs.specs.declared.shape.Sort.{Sort}
 use Rattle.model_defs.specs.declared.shape.Sort.TheVariants.{Vector, Parts, Matrix, Split}
 use Rattle.model_defs.specs.Makers.{Maker, GivenVector, GivenParts, GivenMatrix, Made, maker_of, value_count}
-use Rattle.model_defs.specs.Shapes.{is_dense, shape, shape_by}
-use Rattle.model_defs.specs.Transfers.{transfers, transfers_by}
+use Rattle.model_defs.specs.Shapes.{is_dense, shape}
+use Rattle.model_defs.specs.Transfers.{from_owners, is_local, to_owners, transfers, transfers_by}
 use Rattle.model_defs.specs.Phases.{Act, MakePlan, Send, transfer_acts, plan_acts, structure_plans, value_acts, acts}
-use Rattle.model_defs.specs.Valid.{IsValid, IsValidMaker}
+use Rattle.model_defs.specs.Valid.{IsValid, IsValidMaker, IsValidStep}
 use Rattle.model_defs.proofs.Filters.{and}
-use Rattle.model_defs.proofs.KnownShapes.{shape-of-made}
 use Rattle.model_defs.proofs.Phases.{is_send}
 use Rattle.vector_jobs.specs.VectorJobs.{IsVectorJob}
-use Rattle.vector_jobs.specs.VectorPhases.{IsImport, IsMove, IsVectorMaker}
+use Rattle.vector_jobs.specs.VectorPhases.{IsMapPlan, IsCopy, IsVectorMaker}
+use Rattle.vector_jobs.proofs.Copies.{copy-by}
 use Rattle.vector_jobs.proofs.VectorMakers.{makers-are-vectors, shapes-are-on-maps}
 
 abbrev pub act_value : Act → ℕ
 act_value (MakePlan k plan) = k
 act_value (Send k t) = k
 
--- A list of acts, each for a value that is not before the last one. A plan is an import between known maps, and the numbers of
--- its value are sent later on. The numbers are those of a value that moves.
+-- A list of acts, each for a value that is not before the last one. A plan is an import or an export between known maps, and
+-- the numbers of its value are sent later on. The numbers are those of a value that is made of the cells of another.
 abbrev pub AreVectorActs : Job → ℕ → List Act → Type 0
 AreVectorActs job low [] = Unit {0}
-AreVectorActs job low (MakePlan k plan ∷ xs) = (low ≤ k) × (k < value_count job) × IsImport job plan × (list_any (is_send k 0) xs ≡ true) × AreVectorActs job k xs
-AreVectorActs job low (Send k t ∷ xs) = (low ≤ k) × (k < value_count job) × (t ≡ 0) × IsMove job k × AreVectorActs job k xs
+AreVectorActs job low (MakePlan k plan ∷ xs) = (low ≤ k) × (k < value_count job) × IsMapPlan job plan × (list_any (is_send k 0) xs ≡ true) × AreVectorActs job k xs
+AreVectorActs job low (Send k t ∷ xs) = (low ≤ k) × (k < value_count job) × (t ≡ 0) × IsCopy job k × AreVectorActs job k xs
 
 -- a lower bound on the values will do too
 pub acts-lower : (job : Job) (low high : ℕ) (xs : List Act) → low ≤ high → AreVectorActs job high xs → AreVectorActs job low xs
@@ -48,30 +50,6 @@ abbrev nothing : List Act
 nothing = []
 
 module _ (job : Job) (valid : IsValid job) (vectors : IsVectorJob job) where
-  -- a statement that moves a value
-  valid-move : (k : ℕ) → k < value_count job → (name : List ℕ) (source target : ℕ) → maker_of job k ≡ Made (step.Move name source target) → (source < k) × (target < length job.maps)
-  valid-move k l name source target e = (v.0, v.3.0)
-    where
-      v : IsValidMaker job k (Made (step.Move name source target))
-      v = subst (IsValidMaker job k) e (valid.values k l)
-
-  is-move : (k : ℕ) → k < value_count job → (name : List ℕ) (source target : ℕ) → maker_of job k ≡ Made (step.Move name source target) → IsMove job k
-  is-move k l name source target e = record {
-    name = name;
-    source = source;
-    target = target;
-    is = e;
-    below = l;
-    before = (valid-move k l name source target e).0;
-    known_target = (valid-move k l name source target e).1;
-    on_target = ap (λ s. s.rows) made;
-    same_columns = ap (λ s. s.columns) made;
-    transfers = ap (transfers_by job k) e;
-  }
-    where
-      made : shape job k ≡ shape_by k (shape job) (Made (step.Move name source target))
-      made = shape-of-made job valid k l ∙ ap (shape_by k (shape job)) e
-
   -- the acts for a value are those of its transfers
   acts-of-transfers : (k : ℕ) → k < value_count job → value_acts job k ≡ transfer_acts k 0 (transfers job k) ++ []
   acts-of-transfers k l =
@@ -82,43 +60,53 @@ module _ (job : Job) (valid : IsValid job) (vectors : IsVectorJob job) where
       none true = refl
       none false = refl
 
+  -- those of one transfer by such a plan
+  copy-acts : (k : ℕ) → k < value_count job → (low : ℕ) → low ≤ k → (rest : List Act) → AreVectorActs job k rest → (t : Transfer) → IsMapPlan job t.plan → IsCopy job k
+      → AreVectorActs job low ((transfer_acts k 0 (t ∷ []) ++ []) ++ rest)
+  copy-acts k l low b rest h t plan copy = go (is_local t.plan)
+    where
+      go : (c : Bool) → AreVectorActs job low (((cond c [] (MakePlan k t.plan ∷ Send k 0 ∷ []) ++ []) ++ []) ++ rest)
+      go true = acts-lower job low k rest b h
+      go false = (
+        b,
+        l,
+        plan,
+        ap (λ c. c || list_any (is_send k 0) rest) (and (eqb k k) (eqb 0 0) (eq-eqb k k refl) refl),
+        (omega arith, l, refl, copy, h),
+      )
+
+  valid-step : (k : ℕ) → k < value_count job → (s : Step) → maker_of job k ≡ Made s → IsValidStep job k s
+  valid-step k l s e = subst (IsValidMaker job k) e (valid.values k l)
+
+  -- the map of a value before value k
+  on-map : (k v : ℕ) → k < value_count job → v < k → (shape job v).rows < length job.maps
+  on-map k v l before = (shapes-are-on-maps job valid vectors v (omega (arith, l, before))).known
+
   transfer-acts : (k : ℕ) → k < value_count job → (low : ℕ) → low ≤ k → (rest : List Act) → AreVectorActs job k rest → (m : Maker) → maker_of job k ≡ m → IsVectorMaker m
       → AreVectorActs job low ((transfer_acts k 0 (transfers_by job k m) ++ []) ++ rest)
   transfer-acts k l low b rest h (GivenVector spec) e g = acts-lower job low k rest b h
   transfer-acts k l low b rest h (GivenParts spec) e g = acts-lower job low k rest b h
   transfer-acts k l low b rest h (GivenMatrix spec) e g = absurd g
-  transfer-acts k l low b rest h (Made (step.Move name source target)) e g = go (eqb (shape job source).rows target)
-    where
-      move : IsMove job k
-      move = is-move k l name source target e
-
-      operands : (source < k) × (target < length job.maps)
-      operands = valid-move k l name source target e
-
-      plan : Plan
-      plan = ImportPlan (shape job source).rows target
-
-      imports : IsImport job plan
-      imports = record {
-        source = (shape job source).rows;
-        target = target;
-        is = refl;
-        known_source = (shapes-are-on-maps job valid vectors source (omega (arith, operands.0, l))).known;
-        known_target = operands.1;
-      }
-
-      go : (b : Bool) → AreVectorActs job low (((cond b [] (MakePlan k plan ∷ Send k 0 ∷ []) ++ []) ++ []) ++ rest)
-      go true = acts-lower job low k rest b h
-      go false = (
-        b,
-        l,
-        imports,
-        ap (λ c. c || list_any (is_send k 0) rest) (and (eqb k k) (eqb 0 0) (eq-eqb k k refl) refl),
-        (omega arith, l, refl, move, h),
-      )
-  transfer-acts k l low b rest h (Made (step.Import name source onto mode)) e g = absurd g
-  transfer-acts k l low b rest h (Made (step.Export name source onto mode)) e g = absurd g
-  transfer-acts k l low b rest h (Made (step.Spread name source m)) e g = absurd g
+  transfer-acts k l low b rest h (Made (step.Move name source m)) e g =
+      let v = valid-step k l (step.Move name source m) e in
+      copy-acts k l low b rest h (from_owners (ImportPlan (shape job source).rows m))
+      (record { source = (shape job source).rows; target = m; is = inl refl; known_source = on-map k source l v.0; known_target = v.3.0 })
+      (copy-by job valid k l (Made (step.Move name source m)) source e refl)
+  transfer-acts k l low b rest h (Made (step.Import name source onto mode)) e g =
+      let v = valid-step k l (step.Import name source onto mode) e in
+      copy-acts k l low b rest h (from_owners (ImportPlan (shape job source).rows (shape job onto).rows))
+      (record { source = (shape job source).rows; target = (shape job onto).rows; is = inl refl; known_source = on-map k source l v.0.0; known_target = on-map k onto l v.1.0 })
+      (copy-by job valid k l (Made (step.Import name source onto mode)) source e refl)
+  transfer-acts k l low b rest h (Made (step.Export name source onto mode)) e g =
+      let v = valid-step k l (step.Export name source onto mode) e in
+      copy-acts k l low b rest h (to_owners (ExportPlan (shape job source).rows (shape job onto).rows))
+      (record { source = (shape job source).rows; target = (shape job onto).rows; is = inr refl; known_source = on-map k source l v.0.0; known_target = on-map k onto l v.1.0 })
+      (copy-by job valid k l (Made (step.Export name source onto mode)) source e refl)
+  transfer-acts k l low b rest h (Made (step.Spread name source m)) e g =
+      let v = valid-step k l (step.Spread name source m) e in
+      copy-acts k l low b rest h (from_owners (ImportPlan (shape job source).rows m))
+      (record { source = (shape job source).rows; target = m; is = inl refl; known_source = on-map k source l v.0.0; known_target = v.1 })
+      (copy-by job valid k l (Made (step.Spread name source m)) source e refl)
   transfer-acts k l low b rest h (Made (step.Update name x y alpha beta)) e g = acts-lower job low k rest b h
   transfer-acts k l low b rest h (Made (step.Scale name value alpha)) e g = acts-lower job low k rest b h
   transfer-acts k l low b rest h (Made (step.Apply name a x y alpha beta transposed)) e g = absurd g

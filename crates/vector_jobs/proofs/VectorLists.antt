@@ -28,17 +28,17 @@ use Rattle.rank_stages.proofs.SendPhases.{send-phase-is}
 use Rattle.rank_stages.proofs.SentOnce.{transfers_are_sent_once}
 use Rattle.vector_jobs.specs.Laws.{VectorJobsHavePhases}
 use Rattle.vector_jobs.specs.VectorJobs.{IsVectorJob}
-use Rattle.vector_jobs.specs.VectorPhases.{IsImport, IsMove}
+use Rattle.vector_jobs.specs.VectorPhases.{IsMapPlan, IsCopy}
 use Rattle.vector_jobs.proofs.VectorMakers.{makers-are-vectors, shapes-are-on-maps}
 use Rattle.vector_jobs.proofs.VectorActs.{AreVectorActs, acts-are-vectors}
 
 -- what a phase may be about, and for which value
 abbrev IsVectorAbout : Job → ℕ → About → Type 0
 IsVectorAbout job k (RegisterMap m) = m < length job.maps
-IsVectorAbout job k (AskOwners plan) = IsImport job plan
-IsVectorAbout job k (TellOwners plan) = IsImport job plan
-IsVectorAbout job k (SharePlan plan) = IsImport job plan
-IsVectorAbout job k (SendNumbers t) = (t ≡ 0) × IsMove job k
+IsVectorAbout job k (AskOwners plan) = IsMapPlan job plan
+IsVectorAbout job k (TellOwners plan) = IsMapPlan job plan
+IsVectorAbout job k (SharePlan plan) = IsMapPlan job plan
+IsVectorAbout job k (SendNumbers t) = (t ≡ 0) × IsCopy job k
 
 abbrev IsVectorPhase : Job → Phase → Type 0
 IsVectorPhase job x = (x.value < value_count job) × IsVectorAbout job x.value x.about
@@ -67,10 +67,13 @@ phases-before job k (x ∷ xs) ys a s h = (
 )
 
 module _ (job : Job) where
-  owner-known : (plan : Plan) → IsImport job plan → owner_map job plan < length job.maps
-  owner-known plan h = subst (λ m. m < length job.maps) (sym (ap (owner_map job) h.is)) h.known_source
+  owner-known : (plan : Plan) → IsMapPlan job plan → owner_map job plan < length job.maps
+  owner-known plan h = elim h.is [
+    | inl e ↦ subst (λ m. m < length job.maps) (sym (ap (owner_map job) e)) h.known_source
+    | inr e ↦ subst (λ m. m < length job.maps) (sym (ap (owner_map job) e)) h.known_target
+  ]
 
-  plan-for : (made : List Plan) (k : ℕ) (plan : Plan) → k < value_count job → IsImport job plan → Each (IsFor job k) (plan_phases job made k plan)
+  plan-for : (made : List Plan) (k : ℕ) (plan : Plan) → k < value_count job → IsMapPlan job plan → Each (IsFor job k) (plan_phases job made k plan)
   plan-for made k plan l h = by (list_any (same_plan (shared_plan job plan)) made)
     where
       registered : (b : Bool) → Each (IsFor job k) (cond b [] (phase_for k Reg (RegisterMap (owner_map job plan)) ∷ []) ++ phase_for k Ask (AskOwners plan) ∷ phase_for k Tell (TellOwners plan) ∷ [])
@@ -146,13 +149,13 @@ module _ (job : Job) (valid : IsValid job) (vectors : IsVectorJob job) where
 
   -- of what a phase is about the value is not needed
   abbrev IsKnownAbout : About → Type 0
-  IsKnownAbout about = ((m : ℕ) → about ≡ RegisterMap m → m < length job.maps) × ((plan : Plan) → plan_about about ≡ Some plan → IsImport job plan)
+  IsKnownAbout about = ((m : ℕ) → about ≡ RegisterMap m → m < length job.maps) × ((plan : Plan) → plan_about about ≡ Some plan → IsMapPlan job plan)
 
   known-about : (k : ℕ) (about : About) → IsVectorAbout job k about → IsKnownAbout about
   known-about k (RegisterMap n) h = ((λ m e. (let same : n ≡ m = cc in subst (λ i. i < length job.maps) same h)), (λ plan e. absurd (let bad : ⊥ = cc in bad)))
-  known-about k (AskOwners p) h = ((λ m e. absurd (let bad : ⊥ = cc in bad)), (λ plan e. (let same : p ≡ plan = cc in subst (IsImport job) same h)))
-  known-about k (TellOwners p) h = ((λ m e. absurd (let bad : ⊥ = cc in bad)), (λ plan e. (let same : p ≡ plan = cc in subst (IsImport job) same h)))
-  known-about k (SharePlan p) h = ((λ m e. absurd (let bad : ⊥ = cc in bad)), (λ plan e. (let same : p ≡ plan = cc in subst (IsImport job) same h)))
+  known-about k (AskOwners p) h = ((λ m e. absurd (let bad : ⊥ = cc in bad)), (λ plan e. (let same : p ≡ plan = cc in subst (IsMapPlan job) same h)))
+  known-about k (TellOwners p) h = ((λ m e. absurd (let bad : ⊥ = cc in bad)), (λ plan e. (let same : p ≡ plan = cc in subst (IsMapPlan job) same h)))
+  known-about k (SharePlan p) h = ((λ m e. absurd (let bad : ⊥ = cc in bad)), (λ plan e. (let same : p ≡ plan = cc in subst (IsMapPlan job) same h)))
   known-about k (SendNumbers t) h = ((λ m e. absurd (let bad : ⊥ = cc in bad)), (λ plan e. absurd (let bad : ⊥ = cc in bad)))
 
   known-each : (xs : List Phase) → Each (IsVectorPhase job) xs → Each (λ x. IsKnownAbout x.about) xs
@@ -162,8 +165,8 @@ module _ (job : Job) (valid : IsValid job) (vectors : IsVectorJob job) where
   about-known : (n : ℕ) (about : About) → about_at job n ≡ Some about → IsKnownAbout about
   about-known n about e = each-about IsKnownAbout (phases job) n about (known-each (phases job) (each-phase job 0 (phases job) all-phases)) e
 
-  moves : (n : ℕ) (x : Phase) (t : ℕ) → slice_get (phases job) n ≡ Some x → x.about ≡ SendNumbers t → (t ≡ 0) × IsMove job x.value
-  moves n x t e f = subst (IsVectorAbout job x.value) f (phase-at job 0 (phases job) n x all-phases e).1.1
+  copies : (n : ℕ) (x : Phase) (t : ℕ) → slice_get (phases job) n ≡ Some x → x.about ≡ SendNumbers t → (t ≡ 0) × IsCopy job x.value
+  copies n x t e f = subst (IsVectorAbout job x.value) f (phase-at job 0 (phases job) n x all-phases e).1.1
 
   in-order : (n m : ℕ) (a b : Phase) → slice_get (phases job) n ≡ Some a → slice_get (phases job) m ≡ Some b → n ≤ m → a.value ≤ b.value
   in-order n m a b e f l = order-at job 0 (phases job) n m a b all-phases e f l
@@ -186,7 +189,7 @@ vector-jobs-have-phases = λ job valid vectors. record {
   shapes = shapes-are-on-maps job valid vectors;
   maps = λ n m e. (about-known job valid vectors n (RegisterMap m) e).0 m refl;
   plans = λ n about plan e f. (about-known job valid vectors n about e).1 plan f;
-  moves = moves job valid vectors;
+  copies = copies job valid vectors;
   below = λ n x e. (phase-at job 0 (phases job) n x (all-phases job valid vectors) e).1.0;
   sent = sent job valid vectors;
   left = left job valid vectors;

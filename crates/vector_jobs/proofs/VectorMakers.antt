@@ -88,9 +88,9 @@ module _ (job : Job) (valid : IsValid job) (vectors : IsVectorJob job) where
       by (GivenParts spec) h v = record { dense = refl; known = v.0; some_column = h.0; few_columns = h.1 }
       by (GivenMatrix spec) h v = absurd h
       by (Made (step.Move name source m)) h v = let on = rest source v.0 in record { dense = on.dense; known = v.3.0; some_column = on.some_column; few_columns = on.few_columns }
-      by (Made (step.Import name source onto mode)) h v = absurd h
-      by (Made (step.Export name source onto mode)) h v = absurd h
-      by (Made (step.Spread name source m)) h v = absurd h
+      by (Made (step.Import name source onto mode)) h v = rest onto v.1.0
+      by (Made (step.Export name source onto mode)) h v = rest onto v.1.0
+      by (Made (step.Spread name source m)) h v = let on = rest source v.0.0 in record { dense = refl; known = v.1; some_column = on.some_column; few_columns = on.few_columns }
       by (Made (step.Update name x y alpha beta)) h v = rest x v.0
       by (Made (step.Scale name value alpha)) h v = rest value v
       by (Made (step.Apply name a x y alpha beta transposed)) h v = absurd h

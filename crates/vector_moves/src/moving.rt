@@ -43,6 +43,17 @@ pub fn ready<S: Scalar>(
     Transfer::ready(plan, x.columns(), pool)
 }
 
+/// The transfer of vectors with as many columns as `x`, 1 to 16, by a plan. The letter to each rank has fewer than 2^64 bytes.
+/// It takes no memory, and no block is reserved: `pack` needs room in the pool that it is given.
+pub fn for_vectors<S: Scalar>(x: &MultiVector<S>, plan: Plan) -> Transfer
+    requires some_column { 1 ≤ x.now.columns }
+    requires columns_limit { x.now.columns ≤ 16 }
+    requires letters_fit { (q : ℕ) → q < plan.ranks → nums_length (length (export_list plan q)) x.now.columns < 2 ^ 64 }
+    ensures transfer { result ≡ record { plan = plan; width = Some x.now.columns } }
+{
+    Transfer::for_nums(plan, x.columns())
+}
+
 /// Combines the rows that stay on their rank with those of `y` at the same global index (`Tpetra::DistObject`, copy and
 /// permute). All other rows stay. It takes no memory.
 ///

@@ -32,7 +32,7 @@ step_piece-requires g c =
     let maker = sym c.in-Statement.ensures in
     record {
       operands = can-make g.S.Scalar.semiring g.S.Scalar.conversions c.args.job.now c.requires.before.0 c.args.me c.args.share.now input c.requires.before.1.0 c.args.k c.args.values.now
-          c.requires.before.1.1.1 c.requires.known c.in-Statement.step.now maker (vector-step c.args.job.now input.valid c.args.k c.requires.known input.vectors c.in-Statement.step.now maker);
+          c.requires.before.1.1.1 c.requires.known c.in-Statement.step.now maker c.requires.here (vector-step c.args.job.now input.valid c.args.k c.requires.known input.vectors c.in-Statement.step.now maker);
     }
 
 pub unreachable-requires : goal.unreachable-requires

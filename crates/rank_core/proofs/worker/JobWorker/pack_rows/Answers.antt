@@ -1,6 +1,5 @@
-use Rattle.std.proofs.Common.{◌∙◌, length, ap, subst}
+use Rattle.std.proofs.Common.{◌∙◌, ap}
 use Rattle.byte_pool.specs.Leases.{leases, with_lease}
-use Rattle.rank_core.specs.Gatherings.{IsGatheringAt}
 use Rattle.rank_core.proofs.Clauses.{if-ok}
 use Rattle.rank_core.proofs.PackedLetters.{rows-content, same-columns, some-row, sources-below, to-rank}
 use Rattle.rank_core.proofs.worker.JobWorker.pack_rows.Goals as goal

@@ -1,13 +1,12 @@
-//! The maps of a job and of its imports.
+//! The maps of a job, of its imports and of its exports.
 ghost use Rattle.std.specs.Prelude.{◌≡◌, ◌<◌, ◌≤◌, ◌^◌, ℕ, List, length, IfOk};
 ghost use Rattle.tables.specs.Indices.{AreDistinct};
 ghost use Rattle.mm_text.specs.Reading.{File};
-ghost use Rattle.model_defs.specs.declared.phase.Plan.TheVariants.{ImportPlan};
 ghost use Rattle.model_defs.specs.Maps.{is_uniform, size_of};
 ghost use Rattle.model_defs.specs.Plans.{lacking};
 ghost use Rattle.model_defs.specs.Transfers.{owner_map};
 ghost use Rattle.model_defs.specs.Valid.{IsValid};
-ghost use Rattle.vector_jobs.specs.VectorPhases.{IsImport};
+ghost use Rattle.vector_jobs.specs.VectorPhases.{IsMapPlan};
 
 use map_core::Gid;
 use model_defs::{Job, MapForm, Plan};
@@ -35,29 +34,20 @@ pub(crate) fn is_uniform(job: &Job, map: u32) -> bool
     }
 }
 
-/// The map in which each index of an import has one owner.
+/// The map in which each index of an import or of an export has one owner: the source of an import, and the target of an export.
 pub(crate) fn owner_map(job: &Job, plan: Plan) -> u32
-    requires import { IsImport job.now plan }
+    requires of_maps { IsMapPlan job.now plan }
     ensures map { result ≡ owner_map job.now plan }
 {
     match plan {
         Plan::ImportPlan { source, .. } => source,
+        Plan::ExportPlan { target, .. } => target,
         _ => unreachable!(),
     }
 }
 
-/// The source and the target of an import.
-pub(crate) fn import_maps(plan: Plan) -> (u32, u32)
-    requires import { (source : ℕ) × ((target : ℕ) × (plan ≡ ImportPlan source target)) }
-    ensures maps { plan ≡ ImportPlan result.0 result.1 }
-{
-    match plan {
-        Plan::ImportPlan { source, target } => (source, target),
-        _ => unreachable!(),
-    }
-}
-
-/// The indices that rank `me` lacks by an import, in target order: none stands twice. `Err` means that memory ran out.
+/// The indices that rank `me` lacks by an import, in target order, or by an export, in source order: none stands twice. `Err` means
+/// that memory ran out.
 pub(crate) fn lacked_by(
     alloc: Global,
     job: &Job,
@@ -65,7 +55,7 @@ pub(crate) fn lacked_by(
     me: u32,
 ) -> Result<Vec<Gid>, AllocError>
     requires valid { IsValid job.now }
-    requires import { IsImport job.now plan }
+    requires of_maps { IsMapPlan job.now plan }
     requires rank { me < job.now.ranks }
     ensures lacked { IfOk result (λ gids. (files : List File) → gids.items ≡ lacking job.now files plan me) }
     ensures distinct { IfOk result (λ gids. AreDistinct gids.items) }
@@ -75,6 +65,11 @@ pub(crate) fn lacked_by(
             let held = own_map(alloc, job, source, me)?;
             let wanted = own_map(alloc, job, target, me)?;
             lacked_indices(alloc, &held, &wanted)
+        }
+        Plan::ExportPlan { source, target } => {
+            let given = own_map(alloc, job, source, me)?;
+            let owned = own_map(alloc, job, target, me)?;
+            lacked_indices(alloc, &owned, &given)
         }
         _ => unreachable!(),
     }
