@@ -34,10 +34,10 @@ use std::rc::Rc;
 ///
 /// The job is valid, the files are those that it names, in the order of its values, and have the sizes that it states, and
 /// the wire has nothing pending. By now the job is one of vectors: its values are vectors and parts, its statements
-/// `Move`, `Update`, `Scale` and `Print`. `Done` has the sheets of the printed values, `Over` comes exactly where a cell of some
-/// value is over, and `Undelivered` where a list ends before each letter was delivered. `NotInFlight` is as in `play` of
-/// `message_play`, `WireFault` comes only where the wire's count of faults rose, and `NoMem` is want of memory. After an
-/// `Err` letters may be pending. Job and files stay as they are.
+/// `Move`, `Import`, `Export`, `Spread`, `Update`, `Scale` and `Print`. `Done` has the sheets of the printed values, `Over`
+/// comes exactly where a cell of some value is over, and `Undelivered` where a list ends before each letter was delivered.
+/// `NotInFlight` is as in `play` of `message_play`, `WireFault` comes only where the wire's count of faults rose, and `NoMem`
+/// is want of memory. After an `Err` letters may be pending. Job and files stay as they are.
 pub fn run<W: Wire>(
     alloc: Global,
     job: &Rc<Job>,
