@@ -192,10 +192,16 @@ fn the_weight_of_a_sum_decides_whether_it_overflows(rt: HostRuntime) -> Result<(
     let alloc = rt.alloc();
     let most = format!(in alloc; "1 1\n{MOST}\n")?;
     let less = format!(in alloc; "-{MOST}")?;
-    both_have_it(&rt, alloc, [MOST, "0"], 0, &most, b"")?;
-    both_have_it(&rt, alloc, [MOST, &less], 7, "", b"tpx: overflow\n")?;
-    both_have_it(&rt, alloc, ["0", MOST], 0, &most, b"")?;
-    both_have_it(&rt, alloc, ["1", MOST], 7, "", b"tpx: overflow\n")
+    let rows: [([&str; 2], u8, &str, &[u8]); 4] = [
+        ([MOST, "0"], 0, most.as_str(), b""),
+        ([MOST, less.as_str()], 7, "", b"tpx: overflow\n"),
+        (["0", MOST], 0, most.as_str(), b""),
+        (["1", MOST], 7, "", b"tpx: overflow\n"),
+    ];
+    for (parts, status, lines, message) in rows {
+        both_have_it(&rt, alloc, parts, status, lines, message)?;
+    }
+    Ok(())
 }
 
 /// The head of a job with parts of which the target lacks index 1.
