@@ -87,7 +87,7 @@ fn put_in_order<S: Scalar>(alloc: Global, cells: Vec<Cell<S>>) -> Result<Vec<Cel
 
 /// Cells in order by row, then column, those of one place added. Only cells that are not in order take memory. `Err` means
 /// that memory ran out.
-fn in_order<S: Scalar>(alloc: Global, cells: Vec<Cell<S>>) -> Result<Vec<Cell<S>>, AllocError>
+pub fn in_order<S: Scalar>(alloc: Global, cells: Vec<Cell<S>>) -> Result<Vec<Cell<S>>, AllocError>
     ensures in_order { IfOk result (λ sorted. AreInOrder sorted.items) }
     ensures cells { IfOk result (λ sorted. found sorted.items ≡ table_of S.semiring cells.items) }
 {

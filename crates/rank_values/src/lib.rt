@@ -21,6 +21,6 @@ mod sums;
 #[cfg(test)]
 mod tests;
 
-pub use cells::{global_cells, is_vector_over};
+pub use cells::{global_cells, in_order, is_vector_over};
 pub use lines::{number_of, vector_of_lines};
 pub use sums::{scaled_vector, sum_of_vectors};

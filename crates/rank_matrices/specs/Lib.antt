@@ -1,0 +1,3 @@
+pub mod Matrices
+pub mod Rows
+pub mod Laws
