@@ -1,0 +1,3 @@
+pub mod Sources
+pub mod Arrivals
+pub mod Laws
