@@ -31,6 +31,8 @@ pub mod laws;
 mod moving;
 mod room;
 mod sources;
+#[cfg(test)]
+mod tests;
 
 pub use arriving_rows::ArrivingRows;
 pub use sources::{fill_is_source, matrix_is_source};

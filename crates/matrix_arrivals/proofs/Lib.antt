@@ -1,0 +1,4 @@
+pub mod Few
+pub mod Served
+pub mod Written
+pub mod Begun

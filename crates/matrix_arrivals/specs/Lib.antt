@@ -1,0 +1,4 @@
+pub mod Bounds
+pub mod RowPlans
+pub mod RowLetters
+pub mod RowsBegun

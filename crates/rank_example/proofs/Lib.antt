@@ -1,0 +1,3 @@
+pub mod AfterSteps
+pub mod Jobs
+pub mod Letters

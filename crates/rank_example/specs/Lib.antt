@@ -1,0 +1,4 @@
+pub mod SmallJob
+pub mod Posts
+pub mod LaidOut
+pub mod Played
