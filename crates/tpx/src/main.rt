@@ -16,6 +16,8 @@ mod conflict_tests;
 #[cfg(test)]
 mod export_tests;
 mod fault;
+#[cfg(test)]
+mod import_tests;
 mod messages;
 #[cfg(test)]
 mod move_tests;
@@ -27,6 +29,8 @@ mod run;
 #[cfg(test)]
 mod run_tests;
 mod show;
+#[cfg(test)]
+mod show_tests;
 mod shown;
 mod system;
 #[cfg(test)]

@@ -5,9 +5,9 @@ ghost use Rattle.model_defs.specs.Fitting.{IsFitting};
 ghost use Rattle.model_defs.specs.Valid.{IsValid};
 ghost use Rattle.vector_jobs.specs.VectorJobs.{IsVectorJob};
 
-use crate::export_tests::there_and_back;
-use crate::move_tests::to_cyclic;
-use crate::test_runs::files_of;
+use crate::export_tests::{AND_BACK, PRINT_Y, THERE};
+use crate::move_tests::TO_CYCLIC;
+use crate::test_runs::{CASE, Case, files_of};
 use outside::MailRoom;
 use rank_sim::{End, run_with};
 use run_input::{Given, read_given};
@@ -41,38 +41,63 @@ fn printed_residues(alloc: Global, given: &Given) -> Result<Vec<i128>, AllocErro
     Ok(values)
 }
 
-/// The residues that a job of x prints, x being 1, -1 and 1000.
-fn residues_of(alloc: Global, job: &str) -> Result<Vec<i128>, AllocError> {
-    let x = "%%MatrixMarket matrix array integer general\n3 1\n1\n-1\n1000\n";
-    let mut files = files_of(alloc, job, x, "")?;
+/// The residues that the job of a case prints.
+fn residues_of(alloc: Global, case: &Case) -> Result<Vec<i128>, AllocError> {
+    let mut files = files_of(alloc, case)?;
     match read_given(alloc, &mut files, "j.toml", OrderWord::Fifo) {
         Ok(given) => printed_residues(alloc, &given),
         Err(_) => Ok(Vec::new(alloc)),
     }
 }
 
+/// A job of x, which is 1, -1 and 1000.
+const OF_RESIDUES: Case = Case {
+    x: "%%MatrixMarket matrix array integer general\n3 1\n1\n-1\n1000\n",
+    ..CASE
+};
+
+const CASES: [(Case, [i128; 3]); 4] = [
+    (
+        Case {
+            name: "a job runs on residues",
+            job: &[
+                "ranks = 2\n[[map]]\nname = \"u\"\nkind = \"uniform\"\nsize = 3\n[[vector]]\nname = \"x\"\nmap = \"u\"\nfile = \"x.mtx\"\n[[do]]\nop = \"update\"\nname = \"z\"\nx = \"x\"\ny = \"x\"\nalpha = 2\n[[do]]\nop = \"print\"\nvalue = \"z\"\n",
+            ],
+            ..OF_RESIDUES
+        },
+        [3, 997, 0],
+    ),
+    (
+        Case {
+            name: "residues are moved",
+            job: TO_CYCLIC,
+            ..OF_RESIDUES
+        },
+        [1, 999, 0],
+    ),
+    (
+        Case {
+            name: "residues are added",
+            job: &[THERE, "999", AND_BACK, "add", PRINT_Y],
+            ..OF_RESIDUES
+        },
+        [0, 1, 0],
+    ),
+    (
+        Case {
+            name: "the greatest residues",
+            job: &[THERE, "999", AND_BACK, "absmax", PRINT_Y],
+            ..OF_RESIDUES
+        },
+        [999, 999, 999],
+    ),
+];
+
 #[test]
 fn a_job_runs_on_residues(rt: HostRuntime) -> Result<(), Fail> {
-    let job =
-        "ranks = 2\n[[map]]\nname = \"u\"\nkind = \"uniform\"\nsize = 3\n[[vector]]\nname = \"x\"\nmap = \"u\"\nfile = \"x.mtx\"\n[[do]]\nop = \"update\"\nname = \"z\"\nx = \"x\"\ny = \"x\"\nalpha = 2\n[[do]]\nop = \"print\"\nvalue = \"z\"\n";
-    let values = residues_of(rt.alloc(), job)?;
-    assert_eq!(rt; values.as_slice(), [3, 997, 0].as_slice());
-    Ok(())
-}
-
-#[test]
-fn residues_are_moved(rt: HostRuntime) -> Result<(), Fail> {
-    let values = residues_of(rt.alloc(), &to_cyclic(rt.alloc())?)?;
-    assert_eq!(rt; values.as_slice(), [1, 999, 0].as_slice());
-    Ok(())
-}
-
-#[test]
-fn residues_are_exported(rt: HostRuntime) -> Result<(), Fail> {
-    let alloc = rt.alloc();
-    let values = residues_of(alloc, &there_and_back(alloc, "999", "add")?)?;
-    assert_eq!(rt; values.as_slice(), [0, 1, 0].as_slice());
-    let values = residues_of(alloc, &there_and_back(alloc, "999", "absmax")?)?;
-    assert_eq!(rt; values.as_slice(), [999, 999, 999].as_slice());
+    for (case, wanted) in &CASES {
+        let values = residues_of(rt.alloc(), case)?;
+        assert_eq!(rt; values.as_slice(), wanted.as_slice(), "{}", case.name);
+    }
     Ok(())
 }
