@@ -8,3 +8,4 @@ pub mod LocalColumns
 pub mod Searches
 pub mod Compressed
 pub mod GraphPlaces
+pub mod Marks

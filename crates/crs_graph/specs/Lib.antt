@@ -5,3 +5,4 @@ pub mod ColumnMaps
 pub mod Packed
 pub mod Graphs
 pub mod Kept
+pub mod Spans

@@ -46,18 +46,22 @@ fn own_columns(alloc: Global, columns: &[Gid], domain: &LocalMap) -> Result<Vec<
     let mut own = Vec::new(alloc);
     for lid in 0..domain.len() {
         let gid = domain.global_of(lid).unwrap();
-        if has_column(columns, gid) {
+        if has_column(columns, own.len(), gid) {
             own.push(gid)?;
         }
     }
     Ok(own)
 }
 
-/// Whether a column is among those that ascend.
-fn has_column(columns: &[Gid], col: Gid) -> bool
+/// Whether a column is among those that ascend; it is first looked for at a place.
+#[inline]
+fn has_column(columns: &[Gid], place: usize, col: Gid) -> bool
     requires ascend { IsAscending columns.now }
     ensures has { result ≡ stands col columns.now }
 {
+    if place < columns.len() && columns[place] == col {
+        return true;
+    }
     match columns.binary_search(&col) {
         Ok(_) => true,
         Err(_) => false,

@@ -1,11 +1,13 @@
 //! From rows of columns to compressed rows.
 ghost use Rattle.std.specs.Prelude.{◌≡◌, ◌+◌, ◌<◌, ◌≤◌, ◌^◌, ◌++◌, [], ℕ, true, length, map, slice_range, IfOk, OnOk};
 ghost use Rattle.std.specs.List.{slice_index_or};
-ghost use Rattle.map_core.specs.Classes.{places};
+ghost use Rattle.map_core.specs.Classes.{index_at, place, places};
 ghost use Rattle.map_core.specs.Layouts.{stands, AreDistinct};
 ghost use Rattle.crs_graph.specs.Ascending.{ascending, IsAscending};
 ghost use Rattle.crs_graph.specs.Packed.{joined, slices, IsPacked};
+ghost use Rattle.crs_graph.specs.Spans.{IsSpan};
 
+use crate::spans::narrow_span;
 use map_core::{Gid, LocalMap};
 use std::alloc::{AllocError, Global};
 
@@ -35,6 +37,59 @@ pub(crate) fn local_places(
     cols: &LocalMap,
     gids: &[Gid],
 ) -> Result<Vec<u32>, AllocError>
+    requires known { (g : ℕ) → stands g gids.now ≡ true → stands g cols.now ≡ true }
+    ensures places { IfOk result (λ found. found.items ≡ places cols.now gids.now) }
+{
+    match narrow_span(gids) {
+        Some((first, count)) => listed_places(alloc, cols, gids, first, count),
+        None => searched_places(alloc, cols, gids),
+    }
+}
+
+/// The same by a list of the local indices of `count` columns from `first` on.
+fn listed_places(
+    alloc: Global,
+    cols: &LocalMap,
+    gids: &[Gid],
+    first: Gid,
+    count: usize,
+) -> Result<Vec<u32>, AllocError>
+    requires known { (g : ℕ) → stands g gids.now ≡ true → stands g cols.now ≡ true }
+    requires span { IsSpan first count gids.now }
+    ensures places { IfOk result (λ found. found.items ≡ places cols.now gids.now) }
+{
+    let list = place_list(alloc, cols, first, count)?;
+    let mut found = Vec::with_capacity(alloc, gids.len())?;
+    for gid in gids {
+        found.push(list[(*gid - first) as usize])?;
+    }
+    Ok(found)
+}
+
+/// For each of `count` columns from `first` on its local index, where the map has it. `Err` means that memory ran out.
+fn place_list(
+    alloc: Global,
+    cols: &LocalMap,
+    first: Gid,
+    count: usize,
+) -> Result<Vec<u32>, AllocError>
+    ensures each { IfOk result (λ list. length list.items ≡ count) }
+    ensures places { IfOk result (λ list. (k : ℕ) → k < count → stands (first + k) cols.now ≡ true → index_at list.items k ≡ place cols.now (first + k)) }
+{
+    let mut list = vec![in alloc; 0; count]?;
+    for lid in 0..cols.len() {
+        let Some(gid) = cols.global_of(lid) else {
+            unreachable!();
+        };
+        if first <= gid && gid - first < count as Gid {
+            list[(gid - first) as usize] = lid;
+        }
+    }
+    Ok(list)
+}
+
+/// The same by a search for each.
+fn searched_places(alloc: Global, cols: &LocalMap, gids: &[Gid]) -> Result<Vec<u32>, AllocError>
     requires known { (g : ℕ) → stands g gids.now ≡ true → stands g cols.now ≡ true }
     ensures places { IfOk result (λ found. found.items ≡ places cols.now gids.now) }
 {

@@ -27,10 +27,12 @@ mod fill;
 mod graph;
 pub mod laws;
 mod packed_rows;
+mod spans;
 #[cfg(test)]
 mod tests;
 
 pub use column_order::column_map;
+pub use columns::distinct_columns;
 pub use faults::FillFault;
 pub use fill::GraphFill;
 pub use graph::CrsGraph;

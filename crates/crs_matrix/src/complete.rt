@@ -10,7 +10,7 @@ ghost use Rattle.crs_matrix.specs.Completed.{row_numbers, stored_rows, AreKnown}
 ghost use Rattle.crs_matrix.specs.Stored.{cells_at, columns_at, AreWithin};
 
 use crate::packed_places::PackedPlaces;
-use crate::places::{Place, number_of, push_columns};
+use crate::places::{Place, number_near, push_columns};
 use crs_graph::{CrsGraph, PackedRows};
 use map_core::LocalMap;
 use scalar_laws::Scalar;
@@ -76,11 +76,11 @@ fn push_numbers<S: Scalar>(
     requires known { AreKnown cols.now row.now (columns_at places.now) }
     ensures pushed { OnOk result (map Some stored.new.items ≡ map Some stored.old.items ++ row_numbers cols.now row.now (cells_at values.now places.now)) }
 {
-    for col in row {
-        let Some(gid) = cols.global_of(*col) else {
+    for at in 0..row.len() {
+        let Some(gid) = cols.global_of(row[at]) else {
             unreachable!();
         };
-        let Some(number) = number_of(places, values, gid) else {
+        let Some(number) = number_near(places, values, at, gid) else {
             unreachable!();
         };
         stored.push(number)?;

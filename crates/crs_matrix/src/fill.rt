@@ -16,7 +16,7 @@ use crate::complete::{packed_columns, stored_numbers};
 use crate::packed_places::packed_places;
 use crate::places::{Place, changed, find_place, make_place, number_of, push_columns};
 use combine_modes::{Mode, place};
-use crs_graph::{CrsGraph, FillFault};
+use crs_graph::{CrsGraph, FillFault, distinct_columns};
 use distributor::{DistSource, DistTarget};
 use map_core::{Gid, LocalMap};
 use scalar_laws::Scalar;
@@ -95,9 +95,8 @@ impl<S: Scalar> MatrixFill<S> {
     pub fn columns(&self) -> Result<Vec<Gid>, AllocError>
         ensures columns { IfOk result (λ columns. columns.items ≡ all_columns self.now) }
     {
-        let mut columns = joined_columns(self.alloc, &self.places)?;
-        columns.sort_unstable();
-        columns.dedup();
+        let all = joined_columns(self.alloc, &self.places, self.values.len())?;
+        let columns = distinct_columns(self.alloc, &all)?;
         Ok(columns)
     }
 
@@ -203,11 +202,15 @@ impl<S: Scalar> DistTarget<S> for MatrixFill<S> {
     ghost shape_trans = { λ a b c first second. second ∙ first };
 }
 
-/// The columns of all rows, one row after the other. `Err` means that memory ran out.
-fn joined_columns(alloc: Global, rows: &[SmallVec<Place, 8>]) -> Result<Vec<Gid>, AllocError>
+/// The columns of all rows, one row after the other, where there are about so many. `Err` means that memory ran out.
+fn joined_columns(
+    alloc: Global,
+    rows: &[SmallVec<Place, 8>],
+    count: usize,
+) -> Result<Vec<Gid>, AllocError>
     ensures all { IfOk result (λ all. all.items ≡ concat (map columns_at (places_of rows.now))) }
 {
-    let mut all = Vec::new(alloc);
+    let mut all = Vec::with_capacity(alloc, count)?;
     for row in rows {
         push_columns(&mut all, row.as_slice())?;
     }

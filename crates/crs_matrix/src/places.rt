@@ -40,6 +40,24 @@ pub(crate) fn number_of<S: Scalar>(places: &[Place], values: &[S], col: Gid) -> 
     }
 }
 
+/// The same; the column is first looked for at index i.
+#[inline]
+pub(crate) fn number_near<S: Scalar>(
+    places: &[Place],
+    values: &[S],
+    i: usize,
+    col: Gid,
+) -> Option<S>
+    requires ascending { IsAscending (columns_at places.now) }
+    requires within { AreWithin (length values.now) places.now }
+    ensures number { result ≡ number_at (cells_at values.now places.now) col }
+{
+    if i < places.len() && places[i].col == col {
+        return Some(values[places[i].at]);
+    }
+    number_of(places, values, col)
+}
+
 /// The number of a place that is there, after `value` came for it. It takes no memory.
 pub(crate) fn changed<S: Scalar>(old: S, value: S, mode: Mode) -> S
     ensures number { Some result ≡ after_one S.semiring mode false (Some old) (Some value) }

@@ -86,6 +86,10 @@ fn place_of(columns: &[Gid], col: Gid) -> usize
     ensures within { result < length columns.now }
     ensures column { slice_index columns.now result ≡ col }
 {
+    let near = col.wrapping_sub(columns[0]) as usize;
+    if near < columns.len() && columns[near] == col {
+        return near;
+    }
     match columns.binary_search(&col) {
         Ok(at) => at,
         Err(_) => unreachable!(),

@@ -1,4 +1,4 @@
-use Rattle.std.proofs.Common.{Some, sym, ap, ◌∙◌}
+use Rattle.std.proofs.Common.{sym, ap, ◌∙◌}
 use Rattle.map_core.specs.Layouts.{local_index}
 use Rattle.crs_graph.specs.Graphs.{graph_row, has_local_place}
 use Rattle.crs_graph.proofs.GraphPlaces.{none_stands, some_stands}

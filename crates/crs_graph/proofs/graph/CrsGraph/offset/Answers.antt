@@ -1,5 +1,4 @@
-use Rattle.std.proofs.Common.{◌<◌, ◌≤◌, ◌+◌, length, get_or, sym, subst, ap, ◌∙◌, arith}
-use Rattle.crs_graph.specs.Graphs.{graph_row}
+use Rattle.std.proofs.Common.{◌<◌, length, get_or, sym, subst, ap, ◌∙◌, arith}
 use Rattle.crs_graph.specs.Packed.{offsets_of}
 use Rattle.crs_graph.proofs.Compressed.{columns_count, offset_bound, offset_count}
 use Rattle.crs_graph.proofs.graph.CrsGraph.offset.Goals as goal

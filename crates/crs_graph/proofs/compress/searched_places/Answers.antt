@@ -3,7 +3,7 @@ use Rattle.std.proofs.lemmas.List.{map_more}
 use Rattle.map_core.specs.Classes.{place}
 use Rattle.map_core.proofs.Parting.{place-is}
 use Rattle.crs_graph.proofs.Ascending.{stands-at}
-use Rattle.crs_graph.proofs.compress.local_places.Goals as goal
+use Rattle.crs_graph.proofs.compress.searched_places.Goals as goal
 
 pub unreachable-requires : goal.unreachable-requires
 unreachable-requires c =
