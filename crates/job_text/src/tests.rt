@@ -77,12 +77,12 @@ pub fn all_after(
     each_after(rt, alloc, ALL, head, cases)
 }
 
-/// Today maps, vectors, parts, `move`, `import`, `export`, `spread`, `update`, `scale` and `print` are built.
+/// Today all words are built but those of statements that make a matrix of other places.
 #[test]
 fn words_of_today(rt: HostRuntime) -> Result<(), Fail> {
     let alloc = rt.alloc();
     let cases = [
-        ("matrix = []", "UnknownKey matrix"),
+        ("[[matrix]]\nkind = \"split\"", "Missing matrix.0.name"),
         ("[[map]]\nkind = \"cyclic\"", "Missing map.0.name"),
         ("[[do]]\nop = \"move\"", "Missing do.0.name"),
         ("[[do]]\nop = \"import\"", "Missing do.0.name"),
@@ -91,7 +91,7 @@ fn words_of_today(rt: HostRuntime) -> Result<(), Fail> {
         ("[[do]]\nop = \"update\"", "Missing do.0.name"),
         ("[[do]]\nop = \"scale\"", "Missing do.0.name"),
         ("[[do]]\nop = \"print\"", "Missing do.0.value"),
-        ("[[do]]\nop = \"apply\"", "WrongKind do.0.op"),
+        ("[[do]]\nop = \"apply\"", "Missing do.0.name"),
         ("[[do]]\nop = \"transpose\"", "WrongKind do.0.op"),
         ("[[do]]\nop = \"multiply\"", "WrongKind do.0.op"),
         ("[[do]]\nop = \"add\"", "WrongKind do.0.op"),

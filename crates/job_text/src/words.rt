@@ -65,7 +65,7 @@ pub struct Unbuilt {
 
 /// What is not built yet. A word is built once it stands as `false` here, and nothing else speaks of it.
 pub const TODAY: Unbuilt = Unbuilt {
-    matrix: true,
+    matrix: false,
     blocks: false,
     cyclic: false,
     lists: false,
@@ -73,7 +73,7 @@ pub const TODAY: Unbuilt = Unbuilt {
     imports: false,
     exports: false,
     spreads: false,
-    applies: true,
+    applies: false,
     transposes: true,
     multiplies: true,
     adds: true,

@@ -6,9 +6,8 @@ pub mod Seen
 pub mod GivenFacts
 pub mod StatementFacts
 pub mod StepFacts
-pub mod VectorSteps
+pub mod BuiltSteps
 pub mod Traces
-pub mod Absent
 pub mod Reading
 pub mod KnownMaps
 pub mod MakersRead

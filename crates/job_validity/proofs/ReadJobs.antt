@@ -1,5 +1,5 @@
--- Each job that is read is valid, and with the words that are built by now it is a job of vectors.
-use Rattle.std.proofs.Common.{◌≡◌, List, [], ◌∷◌, length, refl, arith}
+-- Each job that is read is valid, and with the words that are built by now it has no other statements.
+use Rattle.std.proofs.Common.{◌≡◌, List, [], ◌∷◌, refl}
 use Rattle.std.specs.List.{All}
 use Rattle.std.proofs.lemmas.List.Elements.{All-nil, All-cons}
 use Rattle.model_defs.specs.declared.job.Job.{Job}
@@ -11,8 +11,8 @@ use Rattle.job_text.specs.declared.words.Unbuilt.{Unbuilt}
 use Rattle.job_text.specs.declared.words.TheConstants.{TODAY}
 use Rattle.job_text.specs.Known.{Known, no_names, with_step}
 use Rattle.job_text.specs.Whole.{job_by, job_of}
-use Rattle.vector_jobs.specs.VectorJobs.{IsVectorJob, IsVectorStep}
-use Rattle.job_validity.specs.Laws.{ReadJobsAreValid, ReadJobsAreVectorJobs}
+use Rattle.value_phases.specs.BuiltJobs.{IsBuiltJob, IsBuiltStep}
+use Rattle.job_validity.specs.Laws.{ReadJobsAreValid, ReadJobsAreBuilt}
 use Rattle.job_validity.proofs.Outcomes.{answer}
 use Rattle.job_validity.proofs.MapFacts.{IsGoodSpec}
 use Rattle.job_validity.proofs.Seen.{IsVectorFor, IsPartsFor}
@@ -57,19 +57,15 @@ module _ (u : Unbuilt) (job : Job) (h : IsReadJob u job) where
 
 -- ---- with the words that are built by now
 
-vector-steps : (u : Unbuilt) (steps : List Step) (known : Known) → u ≡ TODAY → AreFor with_step (IsReadStep u) known steps → All IsVectorStep steps
-vector-steps u [] known e h = All-nil IsVectorStep
-vector-steps u (s ∷ ss) known e h = All-cons IsVectorStep s ss (h.0.vectors e) (vector-steps u ss (with_step known s) e h.1)
+built-steps : (u : Unbuilt) (steps : List Step) (known : Known) → u ≡ TODAY → AreFor with_step (IsReadStep u) known steps → All IsBuiltStep steps
+built-steps u [] known e h = All-nil IsBuiltStep
+built-steps u (s ∷ ss) known e h = All-cons IsBuiltStep s ss (h.0.built e) (built-steps u ss (with_step known s) e h.1)
 
-none-left : {A : Type 0} (xs : List A) → length xs ≡ 0 → xs ≡ []
-none-left [] e = refl
-none-left (x ∷ xs) e = absurd (omega arith)
-
-read-vectors : (job : Job) → IsReadJob TODAY job → IsVectorJob job
-read-vectors job h = record { matrices = none-left job.matrices (h.no_matrices refl); steps = vector-steps TODAY job.steps (after_matrices job) refl h.tables.steps }
+read-built : (job : Job) → IsReadJob TODAY job → IsBuiltJob job
+read-built job h = built-steps TODAY job.steps (after_matrices job) refl h.tables.steps
 
 pub read-jobs-are-valid : ReadJobsAreValid
 read-jobs-are-valid = λ u text job e. read-valid u job (answer (IsReadJob u) (job_by u text) job (job-read u text) e)
 
-pub read-jobs-are-vector-jobs : ReadJobsAreVectorJobs
-read-jobs-are-vector-jobs = λ text job e. read-vectors job (answer (IsReadJob TODAY) (job_of text) job (job-read TODAY text) e)
+pub read-jobs-are-built : ReadJobsAreBuilt
+read-jobs-are-built = λ text job e. read-built job (answer (IsReadJob TODAY) (job_of text) job (job-read TODAY text) e)

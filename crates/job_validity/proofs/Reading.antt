@@ -1,5 +1,5 @@
 -- What holds of a job that is read, table by table.
-use Rattle.std.proofs.Common.{◌≡◌, ◌+◌, ◌≤◌, ℕ, cond, List, [], Option, Some, None, Ok, Err, length, refl, subst, ◌∙◌, arith}
+use Rattle.std.proofs.Common.{◌≡◌, ◌+◌, ◌≤◌, ℕ, cond, List, [], Ok, Err, length, refl, subst, arith}
 use Rattle.std.specs.Prelude.{codes, nat_le}
 use Rattle.std.proofs.lemmas.Bool.{leb-true}
 use Rattle.toml.specs.Data.{Data, Items, no_items, Members, get_member}
@@ -10,16 +10,12 @@ use Rattle.model_defs.specs.declared.job.PartsSpec.{PartsSpec}
 use Rattle.model_defs.specs.declared.job.MatrixSpec.{MatrixSpec}
 use Rattle.model_defs.specs.declared.job.Step.{Step}
 use Rattle.model_defs.specs.Limits.{most_ranks, most_maps, most_given, most_steps}
-use Rattle.job_text.specs.declared.fault.JobFault.{JobFault}
-use Rattle.job_text.specs.declared.fault.JobFault.TheVariants.{Limit, UnknownKey}
+use Rattle.job_text.specs.declared.fault.JobFault.TheVariants.{Limit}
 use Rattle.job_text.specs.declared.place.Place.TheVariants as place
-use Rattle.job_text.specs.declared.words.Form.{Form}
-use Rattle.job_text.specs.declared.words.Form.TheVariants as form
 use Rattle.job_text.specs.declared.words.Unbuilt.{Unbuilt}
-use Rattle.job_text.specs.declared.words.TheConstants.{TODAY}
 use Rattle.job_text.specs.Outcomes.{◌>>=◌}
-use Rattle.job_text.specs.Names.{Text, key_name, unknown_in, keys_of}
-use Rattle.job_text.specs.Keys.{without, only_keys, number_at, given_or, array_of, wrong_kind, limit}
+use Rattle.job_text.specs.Names.{Text}
+use Rattle.job_text.specs.Keys.{only_keys, number_at, array_of, wrong_kind, limit}
 use Rattle.job_text.specs.Lists.{item_count, are_tables}
 use Rattle.job_text.specs.Tables.{tables_of, tables_at}
 use Rattle.job_text.specs.Known.{Known, no_names, with_spec, with_step, Read, read}
@@ -27,11 +23,10 @@ use Rattle.job_text.specs.Maps.{maps_after}
 use Rattle.job_text.specs.Given.{vectors_after, parts_after, matrices_after}
 use Rattle.job_text.specs.Steps.{steps_after}
 use Rattle.job_text.specs.Whole.{top_form, Arrays, job_of_arrays, job_in, document_of, most_bytes, job_by}
-use Rattle.job_validity.proofs.Outcomes.{Holds, weaken, bind, when, skip, always, both-hold}
+use Rattle.job_validity.proofs.Outcomes.{Holds, weaken, bind, when, skip}
 use Rattle.job_validity.proofs.KeyFacts.{IsWithin, number-at, given}
 use Rattle.job_validity.proofs.MapFacts.{IsMapFor}
 use Rattle.job_validity.proofs.Seen.{IsVectorFor, IsPartsFor}
-use Rattle.job_validity.proofs.Absent.{none-there}
 use Rattle.job_validity.proofs.Traces.{all_next, AreFor, AreRead, with_vector, with_parts, with_matrix, IsMatrixFor, IsReadStep, maps-read, vectors-read, parts-read, matrices-read, steps-read}
 
 -- ---- what is named after each array
@@ -94,13 +89,6 @@ module _ (u : Unbuilt) (a : Arrays) where
 
 -- ---- the top table
 
-only-keys : (f : Form) (table : Members) → Holds (λ t. unknown_in f table ≡ None) (only_keys place.Top f table)
-only-keys f table = by (unknown_in f table) (λ key. UnknownKey (key_name place.Top key))
-  where
-    by : (o : Option Text) (fault : Text → JobFault) → Holds (λ t. o ≡ None) (without fault o)
-    by None fault = refl
-    by (Some key) fault = tt
-
 module _ (top : Members) (key : Text) (before most : ℕ) where
   abbrev AreFew : Items → Type 0
   AreFew ds = before + item_count ds ≤ most
@@ -113,13 +101,6 @@ module _ (top : Members) (key : Text) (before most : ℕ) where
   tables-at : before ≤ most → Holds AreFew (tables_at top key before most)
   tables-at l = given AreFew no_items (tables_of key before most) (get_member key top) (omega arith) tables-of
 
-  none-at : Holds (λ ds. get_member key top ≡ None → item_count ds ≡ 0) (tables_at top key before most)
-  none-at = by (get_member key top)
-    where
-      by : (o : Option Data) → Holds (λ ds. o ≡ None → item_count ds ≡ 0) (given_or no_items (tables_of key before most) o)
-      by None = λ e. refl
-      by (Some d) = always (λ ds. Some d ≡ None → item_count ds ≡ 0) (λ ds e. absurd (cc)) (tables_of key before most d)
-
 -- ---- a job that is read
 
 pub record IsReadJob (u : Unbuilt) (job : Job) : Type 0 where
@@ -129,36 +110,23 @@ pub record IsReadJob (u : Unbuilt) (job : Job) : Type 0 where
   pub given : length job.vectors + length job.parts + length job.matrices ≤ most_given
   pub steps : length job.steps ≤ most_steps
   pub tables : IsOfTables u job
-  pub no_matrices : u ≡ TODAY → length job.matrices ≡ 0
 
 module _ (u : Unbuilt) (top : Members) where
-  no-matrix : unknown_in (top_form u) top ≡ None → u ≡ TODAY → get_member (codes "matrix") top ≡ None
-  no-matrix none e = none-there (codes "matrix") (keys_of form.TopWithoutMatrix) refl top (subst (λ v. unknown_in (top_form v) top ≡ None) e none)
-
-  -- after so many given values
-  abbrev AreFewMatrices : ℕ → Items → Type 0
-  AreFewMatrices before ds = AreFew top (codes "matrix") before most_given ds × (get_member (codes "matrix") top ≡ None → item_count ds ≡ 0)
-
-  matrices-at : (before : ℕ) → before ≤ most_given → Holds (AreFewMatrices before) (tables_at top (codes "matrix") before most_given)
-  matrices-at before l =
-      both-hold (AreFew top (codes "matrix") before most_given) (λ ds. get_member (codes "matrix") top ≡ None → item_count ds ≡ 0) (tables_at top (codes "matrix") before most_given)
-      (tables-at top (codes "matrix") before most_given l) (none-at top (codes "matrix") before most_given)
-
   job-in : Holds (IsReadJob u) (job_in u top)
   job-in =
-      bind (λ t. unknown_in (top_form u) top ≡ None) (IsReadJob u) (only_keys place.Top (top_form u) top) _ (only-keys (top_form u) top) (λ t none.
+      skip (IsReadJob u) (only_keys place.Top (top_form u) top) _ (λ t.
       bind (IsWithin 1 most_ranks) (IsReadJob u) (number_at place.Top top (codes "ranks") 1 most_ranks) _ (number-at place.Top top (codes "ranks") 1 most_ranks) (λ ranks w.
       bind (AreFew top (codes "map") 0 most_maps) (IsReadJob u) (tables_at top (codes "map") 0 most_maps) _ (tables-at top (codes "map") 0 most_maps (omega arith)) (λ maps m.
       bind (AreFew top (codes "vector") 0 most_given) (IsReadJob u) (tables_at top (codes "vector") 0 most_given) _ (tables-at top (codes "vector") 0 most_given (omega arith)) (λ vectors v.
       bind (AreFew top (codes "parts") (item_count vectors) most_given) (IsReadJob u) (tables_at top (codes "parts") (item_count vectors) most_given) _ (tables-at top (codes "parts") (item_count vectors) most_given (omega arith)) (λ parts p.
-      bind (AreFewMatrices (item_count vectors + item_count parts)) (IsReadJob u) (tables_at top (codes "matrix") (item_count vectors + item_count parts) most_given) _ (matrices-at (item_count vectors + item_count parts) p) (λ matrices x.
+      bind (AreFew top (codes "matrix") (item_count vectors + item_count parts) most_given) (IsReadJob u) (tables_at top (codes "matrix") (item_count vectors + item_count parts) most_given) _ (tables-at top (codes "matrix") (item_count vectors + item_count parts) most_given p) (λ matrices x.
       bind (AreFew top (codes "do") 0 most_steps) (IsReadJob u) (tables_at top (codes "do") 0 most_steps) _ (tables-at top (codes "do") 0 most_steps (omega arith)) (λ steps s.
       let a : Arrays = record { ranks = ranks; maps = maps; vectors = vectors; parts = parts; matrices = matrices; steps = steps } in
-      weaken (IsFromArrays u a) (IsReadJob u) (job_of_arrays u a) (λ job h. limits a job h w.0 w.1 m x.0 s (λ e. x.1 (no-matrix none e))) (from-arrays u a))))))))
+      weaken (IsFromArrays u a) (IsReadJob u) (job_of_arrays u a) (λ job h. limits a job h w.0 w.1 m x s) (from-arrays u a))))))))
     where
       limits : (a : Arrays) (job : Job) → IsFromArrays u a job → 1 ≤ a.ranks → a.ranks ≤ most_ranks → 0 + item_count a.maps ≤ most_maps
-          → item_count a.vectors + item_count a.parts + item_count a.matrices ≤ most_given → 0 + item_count a.steps ≤ most_steps → (u ≡ TODAY → item_count a.matrices ≡ 0) → IsReadJob u job
-      limits a job h r r' m g s none =
+          → item_count a.vectors + item_count a.parts + item_count a.matrices ≤ most_given → 0 + item_count a.steps ≤ most_steps → IsReadJob u job
+      limits a job h r r' m g s =
           let many = h.0 in
           record {
             some = omega (arith, many.ranks);
@@ -167,7 +135,6 @@ module _ (u : Unbuilt) (top : Members) where
             given = omega (arith, many.vectors, many.parts, many.matrices);
             steps = omega (arith, many.steps);
             tables = h.1;
-            no_matrices = λ e. many.matrices ∙ none e;
           }
 
 pub job-read : (u : Unbuilt) (text : List ℕ) → Holds (IsReadJob u) (job_by u text)

@@ -25,8 +25,8 @@ use Rattle.job_validity.proofs.MapFacts.{IsMapFor, map-in}
 use Rattle.job_validity.proofs.Seen.{IsMakerFor, IsVectorFor, IsPartsFor}
 use Rattle.job_validity.proofs.GivenFacts.{vector-in, parts-in, matrix-in}
 use Rattle.job_validity.proofs.StepFacts.{IsStepFor, step-of}
-use Rattle.vector_jobs.specs.VectorJobs.{IsVectorStep}
-use Rattle.job_validity.proofs.VectorSteps.{vector-step-in}
+use Rattle.value_phases.specs.BuiltJobs.{IsBuiltStep}
+use Rattle.job_validity.proofs.BuiltSteps.{built-step-in}
 
 -- what is named after each of a list, and what holds of each by what is named before it
 module _ {A : Type 0} (next : Known → A → Known) where
@@ -112,22 +112,22 @@ IsMatrixFor known spec = IsMakerFor known (GivenMatrix spec)
 -- a statement by what is named, and by the words that are built
 pub record IsReadStep (u : Unbuilt) (known : Known) (step : Step) : Type 0 where
   pub made : IsStepFor known step
-  pub vectors : u ≡ TODAY → IsVectorStep step
+  pub built : u ≡ TODAY → IsBuiltStep step
 
 step-in : (u : Unbuilt) (k : ℕ) (table : Members) (known : Known) → Holds (IsReadStep u known) (step_in k table known u)
 step-in u k table known =
-    weaken (λ s. IsStepFor known s × (u ≡ TODAY → IsVectorStep s)) (IsReadStep u known) (step_in k table known u) (λ s h. record { made = h.0; vectors = h.1 })
-    (both-hold (IsStepFor known) (λ s. u ≡ TODAY → IsVectorStep s) (step_in k table known u) made (under (step_in k table known) (vector-step-in k table known)))
+    weaken (λ s. IsStepFor known s × (u ≡ TODAY → IsBuiltStep s)) (IsReadStep u known) (step_in k table known u) (λ s h. record { made = h.0; built = h.1 })
+    (both-hold (IsStepFor known) (λ s. u ≡ TODAY → IsBuiltStep s) (step_in k table known u) made (under (step_in k table known) (built-step-in k table known)))
   where
     made : Holds (IsStepFor known) (step_in k table known u)
     made = skip (IsStepFor known) (op_at u (place.Do k) table) _ (λ o. skip (IsStepFor known) (only_keys (place.Do k) (form.Do o) table) _ (λ only. step-of k table known o))
 
-    later : (o : Outcome Step) → (u ≡ TODAY → Holds IsVectorStep o) → Holds (λ s. u ≡ TODAY → IsVectorStep s) o
+    later : (o : Outcome Step) → (u ≡ TODAY → Holds IsBuiltStep o) → Holds (λ s. u ≡ TODAY → IsBuiltStep s) o
     later (Ok s) h = h
     later (Err fault) h = tt
 
-    under : (f : Unbuilt → Outcome Step) → Holds IsVectorStep (f TODAY) → Holds (λ s. u ≡ TODAY → IsVectorStep s) (f u)
-    under f h = later (f u) (λ e. subst (λ v. Holds IsVectorStep (f v)) (sym e) h)
+    under : (f : Unbuilt → Outcome Step) → Holds IsBuiltStep (f TODAY) → Holds (λ s. u ≡ TODAY → IsBuiltStep s) (f u)
+    under f h = later (f u) (λ e. subst (λ v. Holds IsBuiltStep (f v)) (sym e) h)
 
 -- ---- from the start of an array
 

@@ -49,7 +49,7 @@ columns-fit p b (suc n) l = by (p b) (columns-fit p (b + 1) n (omega (arith, l))
     by false rest = rest
 
 -- the words of rows below 2^40, of at most 2^24 columns, have 64 bits
-words-fit : (t : Table One) (w : ℕ) → w ≤ most_indices → (rows : List ℕ) → list_all (λ i. ltb i most_size) rows ≡ true → AreWords (flat_map (words_of_row t w) rows)
+pub words-fit : (t : Table One) (w : ℕ) → w ≤ most_indices → (rows : List ℕ) → list_all (λ i. ltb i most_size) rows ≡ true → AreWords (flat_map (words_of_row t w) rows)
 words-fit t w narrow [] h = refl
 words-fit t w narrow (i ∷ is) h =
     let parts = both (ltb i most_size) (list_all (λ k. ltb k most_size) is) h in

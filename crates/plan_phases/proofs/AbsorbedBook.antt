@@ -58,7 +58,7 @@ module _ {S : Type 0} (R : Semiring S) (F : Conversions S) (job : Job) (files : 
   absorbed-book stage known none = record {
     valid = h.valid;
     fitting = h.fitting;
-    vectors = h.vectors;
+    phased = h.phased;
     stage = stage;
     me = a.me ∙ h.me;
     ranks = a.ranks ∙ h.ranks;
@@ -74,7 +74,7 @@ module _ {S : Type 0} (R : Semiring S) (F : Conversions S) (job : Job) (files : 
     known = known;
     none_told = none;
     made = λ plan lists is. h.made plan lists ((λ t. sym a.made t plan) ∙ is);
-    finished = λ n plan at l. (λ t. is_some (a.made t plan)) ∙ h.finished n plan at l;
+    finished = λ n plan at off l. (λ t. is_some (a.made t plan)) ∙ h.finished n plan at off l;
   }
 
 -- the words of a registration are of this home

@@ -110,7 +110,7 @@ module _ {S : Type 0} (R : Semiring S) (F : Conversions S) (job : Job) (files : 
   book-next after kept were_made next has stands_so = record {
     valid = kept.valid;
     fitting = kept.fitting;
-    vectors = kept.vectors;
+    phased = kept.phased;
     stage = stands_so;
     me = next.me ∙ kept.me;
     ranks = next.ranks ∙ kept.ranks;
@@ -126,5 +126,5 @@ module _ {S : Type 0} (R : Semiring S) (F : Conversions S) (job : Job) (files : 
     known = known-next kept next;
     none_told = λ plan. next.told plan s.rank ∙ kept.none_told plan;
     made = λ plan lists is. kept.made plan lists (sym (next.made plan) ∙ is);
-    finished = λ n plan at l. ap is_some (next.made plan) ∙ were_made n plan at (omega (arith, l));
+    finished = λ n plan at off l. ap is_some (next.made plan) ∙ were_made n plan at off (omega (arith, l));
   }

@@ -29,7 +29,7 @@ use Rattle.plan_phases.specs.BookCalls.{IsEnteringBook}
 use Rattle.plan_phases.proofs.Begun.{IsNextBook, IsPlanPhase, book-next}
 use Rattle.plan_phases.proofs.EnteringViews.{stage-said}
 
-module _ {S : Type 0} (R : Semiring S) (F : Conversions S) (job : Job) (files : List File) (old : Book) (about : About) (e : IsEnteringBook R F job files old about) where
+module _ {S : Type 0} (R : Semiring S) (F : Conversions S) (job : Job) (files : List File) (old : Book) (about : About) {list : List ℕ} (e : IsEnteringBook R F job files old about list) where
   -- an earlier phase was left
   left-before : (n : ℕ) → n < e.phase → HasLeft e.stage n
   left-before n l = phases_are_left e.stage n e.phase e.can_enter.all_absorbed (let here = e.can_enter.next in omega (arith, here)) l
@@ -49,7 +49,7 @@ pub record IsTold (job : Job) (old new : Book) (plan : Plan) : Type 0 where
   pub others : (other : Plan) (g : ℕ) → same_plan other plan && stands g (asked_of old plan old.me) ≡ false → owners_of new other g ≡ owners_of old other g
   pub stays : slices new ≡ record (slices old) { owners = owners_of new }
 
-module _ {S : Type 0} (R : Semiring S) (F : Conversions S) (job : Job) (files : List File) (old : Book) (plan : Plan) (e : IsEnteringBook R F job files old (TellOwners plan)) where
+module _ {S : Type 0} (R : Semiring S) (F : Conversions S) (job : Job) (files : List File) (old : Book) (plan : Plan) {list : List ℕ} (e : IsEnteringBook R F job files old (TellOwners plan) list) where
   registered : IsEarlierAbout job e.phase (RegisterMap (owner_map job plan))
   registered = (phases_are_prepared job files e.phase (TellOwners plan) e.kept.valid e.kept.fitting e.is).0
 
@@ -134,7 +134,7 @@ module _ {S : Type 0} (R : Semiring S) (F : Conversions S) (job : Job) (files : 
         book-next R F job files old new e.view e.stage (record (with_book e.view new) { values = values }) e.kept e.made told-next
         (record { directory = refl; asked = refl; owners = refl; told = refl; own = refl }) (told-stage values made)
 
-module _ {S : Type 0} (R : Semiring S) (F : Conversions S) (job : Job) (files : List File) (old : Book) (plan : Plan) (e : IsEnteringBook R F job files old (SharePlan plan)) (asked_for : is_uniform job (owner_map job plan) ≡ false) where
+module _ {S : Type 0} (R : Semiring S) (F : Conversions S) (job : Job) (files : List File) (old : Book) (plan : Plan) {list : List ℕ} (e : IsEnteringBook R F job files old (SharePlan plan) list) (asked_for : is_uniform job (owner_map job plan) ≡ false) where
   answered : IsEarlierAbout job e.phase (TellOwners plan)
   answered = phases_are_prepared job files e.phase (SharePlan plan) e.kept.valid e.kept.fitting e.is asked_for
 

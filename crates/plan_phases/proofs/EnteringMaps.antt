@@ -35,7 +35,7 @@ pub record IsMapBegun (job : Job) (old new : Book) (m : ℕ) : Type 0 where
   pub me : new.me ≡ old.me
   pub ranks : new.ranks ≡ old.ranks
 
-module _ {S : Type 0} (R : Semiring S) (F : Conversions S) (job : Job) (files : List File) (old : Book) (m : ℕ) (e : IsEnteringBook R F job files old (RegisterMap m)) where
+module _ {S : Type 0} (R : Semiring S) (F : Conversions S) (job : Job) (files : List File) (old : Book) (m : ℕ) {list : List ℕ} (e : IsEnteringBook R F job files old (RegisterMap m) list) where
   here : about_at job e.stage.entered ≡ Some (RegisterMap m)
   here = ap (about_at job) e.can_enter.next ∙ e.is
 

@@ -42,7 +42,7 @@ pub record IsPlanBegun (job : Job) (files : List File) (old new : Book) (p : ℕ
   pub me : new.me ≡ old.me
   pub ranks : new.ranks ≡ old.ranks
 
-module _ {S : Type 0} (R : Semiring S) (F : Conversions S) (job : Job) (files : List File) (old new : Book) (about : About) (plan : Plan) (e : IsEnteringBook R F job files old about) (of : plan_about about ≡ Some plan)
+module _ {S : Type 0} (R : Semiring S) (F : Conversions S) (job : Job) (files : List File) (old new : Book) (about : About) (plan : Plan) {list : List ℕ} (e : IsEnteringBook R F job files old about list) (of : plan_about about ≡ Some plan)
     (first : has_plan old plan ≡ false) (h : IsPlanBegun job files old new e.stage.rank plan) where
   at-stage : about_at job e.stage.entered ≡ Some about
   at-stage = ap (about_at job) e.can_enter.next ∙ e.is
@@ -117,7 +117,7 @@ module _ {S : Type 0} (R : Semiring S) (F : Conversions S) (job : Job) (files : 
       book-next R F job files old new e.view e.stage (record (with_book e.view new) { values = values }) e.kept e.made next
       (record { directory = refl; asked = refl; owners = refl; told = refl; own = refl }) stands_so
 
-module _ {S : Type 0} (R : Semiring S) (F : Conversions S) (job : Job) (files : List File) (old : Book) (plan : Plan) (e : IsEnteringBook R F job files old (AskOwners plan)) where
+module _ {S : Type 0} (R : Semiring S) (F : Conversions S) (job : Job) (files : List File) (old : Book) (plan : Plan) {list : List ℕ} (e : IsEnteringBook R F job files old (AskOwners plan) list) where
   pub ask-was-new : has_plan old plan ≡ false
   ask-was-new = ask-new job files e.kept.valid e.kept.fitting e.stage.entered plan (ap (about_at job) e.can_enter.next ∙ e.is) (has_plan old plan) (e.kept.only_plans plan)
 
@@ -154,7 +154,7 @@ module _ {S : Type 0} (R : Semiring S) (F : Conversions S) (job : Job) (files : 
         → IsBookStage R F job files new (record (with_book e.view new) { values = values }) (entering e.stage)
     ask-entered values made = next-stage R F job files old new (AskOwners plan) plan e refl ask-was-new h values ask-next (ask-stage values made)
 
-module _ {S : Type 0} (R : Semiring S) (F : Conversions S) (job : Job) (files : List File) (old : Book) (plan : Plan) (e : IsEnteringBook R F job files old (SharePlan plan)) (rule : is_uniform job (owner_map job plan) ≡ true) where
+module _ {S : Type 0} (R : Semiring S) (F : Conversions S) (job : Job) (files : List File) (old : Book) (plan : Plan) {list : List ℕ} (e : IsEnteringBook R F job files old (SharePlan plan) list) (rule : is_uniform job (owner_map job plan) ≡ true) where
   pub rule-was-new : has_plan old plan ≡ false
   rule-was-new = rule-new job files e.kept.valid e.kept.fitting e.stage.entered plan (ap (about_at job) e.can_enter.next ∙ e.is) rule (has_plan old plan) (e.kept.only_plans plan)
 

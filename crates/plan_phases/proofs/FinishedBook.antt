@@ -1,9 +1,8 @@
 -- A rank's book after a plan was made.
-use Rattle.std.proofs.Common.{◌≡◌, ℕ, suc, ◌<◌, ◌≤◌, ◌⊎◌, inl, inr, Bool, true, false, cond, not, eqb, List, [], ◌∷◌, Some, All, filter, refl, sym, ap, subst, ◌∙◌, arith}
+use Rattle.std.proofs.Common.{◌≡◌, ℕ, suc, ◌<◌, ◌≤◌, ◌⊎◌, inl, inr, Bool, true, false, List, [], Some, All, refl, sym, ap, subst, ◌∙◌, arith}
 use Rattle.std.specs.Option.{is_some}
-use Rattle.std.proofs.lemmas.Bool.{cases_lt, eqb-true}
+use Rattle.std.proofs.lemmas.Bool.{cases_lt}
 use Rattle.std.proofs.lemmas.List.{length-map}
-use Rattle.std.proofs.lemmas.List.Elements.{filter_passes}
 use Rattle.std.proofs.lemmas.List.FromFn.{get_or-map-range_with_len, length-map-range_with_len}
 use Rattle.scalar_laws.specs.Semiring.{Semiring}
 use Rattle.scalar_laws.specs.Conversions.{Conversions}
@@ -16,60 +15,28 @@ use Rattle.model_defs.specs.declared.phase.About.TheVariants.{SharePlan}
 use Rattle.model_defs.specs.declared.phase.Plan.{Plan}
 use Rattle.model_defs.specs.declared.phase.Plan.TheVariants.{ExportPlan, ImportPlan}
 use Rattle.model_defs.specs.Maps.{list_of}
-use Rattle.model_defs.specs.Plans.{lacking, owns, rank_list_by, remote}
+use Rattle.model_defs.specs.Plans.{lacking, owns, remote}
 use Rattle.model_defs.specs.Transfers.{same_plan}
 use Rattle.rank_plans.specs.Books.{Book, has_plan, lacking_of, made_of, own_of, slices, told_of}
 use Rattle.rank_plans.specs.Tasks.{export_of, import_of}
-use Rattle.rank_stages.specs.JobStages.{about_at}
-use Rattle.rank_stages.specs.OwnerLaws.{plan_about}
+use Rattle.rank_stages.specs.JobStages.{HasLeft, about_at}
 use Rattle.rank_stages.proofs.Once.{same-self}
-use Rattle.rank_stages.proofs.Owners.{lists_are_told, phases_are_left}
+use Rattle.rank_stages.proofs.Owners.{phases_are_left}
 use Rattle.rank_stages.proofs.Prepared.{same-is}
 use Rattle.rank_transfers.specs.JobRows.{IsJobExport, IsJobImport}
-use Rattle.vector_jobs.specs.VectorPhases.{IsMapPlan}
+use Rattle.value_phases.specs.ValuePhases.{IsPlanOf, is_of_structure}
 use Rattle.plan_phases.specs.BookStages.{IsBookStage, IsMadePlan}
 use Rattle.plan_phases.specs.BookCalls.{IsLeavingBook}
-use Rattle.plan_phases.proofs.WordsStage.{own-remote, plan-begun, plan-maps}
-
--- none lacks what it owns
-pub none-own : (test : ℕ → Bool) (xs : List ℕ) → filter test (filter (λ g. not (test g)) xs) ≡ []
-none-own test [] = refl
-none-own test (x ∷ xs) = go (test x) refl (none-own test xs)
-  where
-    go : (b : Bool) → test x ≡ b → filter test (filter (λ g. not (test g)) xs) ≡ [] → filter test (cond (not b) (x ∷ filter (λ g. not (test g)) xs) (filter (λ g. not (test g)) xs)) ≡ []
-    go true e rest = rest
-    go false e rest = ap (λ b. cond b (x ∷ filter test (filter (λ g. not (test g)) xs)) (filter test (filter (λ g. not (test g)) xs))) e ∙ rest
+use Rattle.plan_phases.proofs.SharedBook.{import-is, shared-begun, shared-held, shared-none, shared-of-job, shared-owns, shared-there, shared-told}
 
 -- the plan that is made is that of the job's import
-pub import-is : (job : Job) (files : List File) (source target p : ℕ) (own told : ℕ → List ℕ) → p < job.ranks → job.ranks ≤ 32
+job-import-is : (job : Job) (files : List File) (source target p : ℕ) (own told : ℕ → List ℕ) → p < job.ranks → job.ranks ≤ 32
     → ((q : ℕ) → own q ≡ remote job files (ImportPlan source target) p q)
     → ((q : ℕ) → q < job.ranks → told q ≡ remote job files (ImportPlan source target) q p)
     → IsJobImport job files source target p (import_of p job.ranks (list_of job source p) (list_of job target p) own told)
-import-is job files source target p own told known few owns tells =
-    record {
-      is_plan = record {
-        me = known;
-        ranks = few;
-        permuted = sym (length-map (indices_at to both) (place from) ∙ length-map both (index_at to));
-        exports = length-map-range_with_len (λ q. places from (told q)) 0 job.ranks;
-        remotes = length-map-range_with_len (λ q. places to (own q)) 0 job.ranks;
-      };
-      ranks = refl;
-      same = refl;
-      permute_to = refl;
-      permute_from = refl;
-      exports = λ q l. get_or-map-range_with_len (λ q. places from (told q)) 0 job.ranks q q [] l (omega arith) ∙ ap (places from) (tells q l);
-      remotes = λ q l. get_or-map-range_with_len (λ q. places to (own q)) 0 job.ranks q q [] l (omega arith) ∙ ap (places to) (owns q);
-    }
-  where
-    from : List ℕ
-    from = list_of job source p
-
-    to : List ℕ
-    to = list_of job target p
-
-    both : List ℕ
-    both = permuted from to
+job-import-is job files source target p own told known few owns tells =
+    let is = import-is job files (ImportPlan source target) p (list_of job source p) (list_of job target p) own told known few owns tells in
+    record { is_plan = is.is_plan; ranks = is.ranks; same = is.same; permute_to = is.permute_to; permute_from = is.permute_from; exports = is.exports; remotes = is.remotes }
 
 -- or of the job's export
 pub export-is : (job : Job) (files : List File) (source target p : ℕ) (own told : ℕ → List ℕ) → p < job.ranks → job.ranks ≤ 32
@@ -115,60 +82,48 @@ module _ {S : Type 0} (R : Semiring S) (F : Conversions S) (job : Job) (files : 
   low : n < e.stage.entered
   low = let here = e.here in omega (arith, here)
 
-  -- ---- where no plan was shared, the plans of all phases were made
+  -- ---- where no plan between maps was shared, the plans of all phases were made
 
-  pub made-before : ((plan : Plan) → about ≡ SharePlan plan → ⊥) → (i : ℕ) (plan : Plan) → about_at job i ≡ Some (SharePlan plan) → i < e.stage.entered → is_some (made_of old plan) ≡ true
-  made-before other i plan at l = by (cases_lt (suc i) e.stage.entered)
+  pub made-before : ((plan : Plan) → about ≡ SharePlan plan → is_of_structure plan ≡ false → ⊥) → (i : ℕ) (plan : Plan) → about_at job i ≡ Some (SharePlan plan) → is_of_structure plan ≡ false → i < e.stage.entered → is_some (made_of old plan) ≡ true
+  made-before other i plan at off l = by (cases_lt (suc i) e.stage.entered)
     where
       by : (suc i < e.stage.entered) ⊎ (e.stage.entered ≤ suc i) → is_some (made_of old plan) ≡ true
-      by (inl a) = k.finished i plan at a
+      by (inl a) = k.finished i plan at off a
       by (inr a) =
           let same : i ≡ n = (let here = e.here in omega (arith, a, l, here)) in
           let two : Some about ≡ Some (SharePlan plan) = sym e.is ∙ ap (about_at job) (sym same) ∙ at in
           let is : about ≡ SharePlan plan = cc in
-          absurd (other plan is)
+          absurd (other plan is off)
 
   -- ---- where one was
 
   module _ (plan : Plan) (is : about ≡ SharePlan plan) where
-    pub share-maps : IsMapPlan job plan
-    share-maps = plan-maps R F job files old e.view e.stage k n about e.is low plan (ap plan_about is)
-
     at : about_at job n ≡ Some (SharePlan plan)
     at = e.is ∙ ap Some is
 
+    left : HasLeft e.stage n
+    left = phases_are_left e.stage n e.stage.entered e.all_absorbed (omega arith) low
+
+    pub share-of-job : (i : ℕ) × IsPlanOf job i plan
+    share-of-job = shared-of-job R F job files old e.view e.stage k n plan at left
+
     pub share-owns : (q : ℕ) → own_of old plan q ≡ remote job files plan p q
-    share-owns = own-remote R F job files old e.view e.stage k n about e.is low plan is
+    share-owns = shared-owns R F job files old e.view e.stage k n plan at left
 
     pub share-told : (q : ℕ) → q < job.ranks → told_of old plan q ≡ remote job files plan q p
-    share-told q l = by (eqb q p) refl
-      where
-        by : (b : Bool) → eqb q p ≡ b → told_of old plan q ≡ remote job files plan q p
-        by true f =
-            let same = eqb-true q p f in
-            ap (told_of old plan) same ∙ k.none_told plan
-            ∙ sym (none-own (owns job files plan p) (rank_list_by job files plan p))
-            ∙ (λ t. remote job files plan (sym same t) p)
-        by false f =
-            (λ t. sym k.told t plan q)
-            ∙ lists_are_told R F job files e.view e.stage n q plan k.stage at (phases_are_left e.stage n e.stage.entered e.all_absorbed (omega arith) low) l f
+    share-told = shared-told R F job files old e.view e.stage k n plan at left
 
     pub share-there : has_plan old plan ≡ true
-    share-there = ap is_some (plan-begun R F job files old e.view e.stage k n about e.is low plan (ap plan_about is)).size
+    share-there = shared-there R F job files old e.view e.stage k n plan at left
 
     pub share-lacking : lacking_of old plan ≡ lacking job files plan old.me
-    share-lacking =
-        (plan-begun R F job files old e.view e.stage k n about e.is low plan (ap plan_about is)).lacked
-        ∙ (λ t. lacking job files plan (sym k.me t))
+    share-lacking = (shared-begun R F job files old e.view e.stage k n plan at left).lacked ∙ (λ t. lacking job files plan (sym k.me t))
 
     pub share-none : own_of old plan old.me ≡ []
-    share-none = share-owns old.me ∙ (λ t. remote job files plan p (k.me t)) ∙ none-own (owns job files plan p) (rank_list_by job files plan p)
+    share-none = shared-none R F job files old e.view e.stage k n plan at left
 
     pub share-held : (q : ℕ) → q < old.ranks → All (λ g. owns job files plan old.me g ≡ true) (told_of old plan q)
-    share-held q l =
-        let known : q < job.ranks = subst (λ P. q < P) k.ranks l in
-        let is_told : remote job files plan q old.me ≡ told_of old plan q = (λ t. remote job files plan q (k.me t)) ∙ sym (share-told q known) in
-        subst (All (λ g. owns job files plan old.me g ≡ true)) is_told (filter_passes (owns job files plan old.me) (lacking job files plan q))
+    share-held = shared-held R F job files old e.view e.stage k n plan at left
 
     module _ (new : Book) (lists : PlanLists) (good : IsMadePlan job files p plan lists) (makes : made_of new plan ≡ Some lists)
         (others : (o : Plan) → same_plan o plan ≡ false → made_of new o ≡ made_of old o)
@@ -195,7 +150,7 @@ module _ {S : Type 0} (R : Semiring S) (F : Conversions S) (job : Job) (files : 
       share-finished = record {
         valid = k.valid;
         fitting = k.fitting;
-        vectors = k.vectors;
+        phased = k.phased;
         stage = k.stage;
         me = (λ t. (stays t).me) ∙ k.me;
         ranks = (λ t. (stays t).ranks) ∙ k.ranks;
@@ -211,14 +166,14 @@ module _ {S : Type 0} (R : Semiring S) (F : Conversions S) (job : Job) (files : 
         known = λ i o g at l on. (λ t. (stays t).owners o g) ∙ k.known i o g at l on;
         none_told = λ o. (λ t. (stays t).told o p) ∙ k.none_told o;
         made = made-is;
-        finished = λ i o at l. some-made o (λ g. k.finished i o at l);
+        finished = λ i o at off l. some-made o (λ g. k.finished i o at off l);
       }
 
-      pub share-made : (i : ℕ) (o : Plan) → about_at job i ≡ Some (SharePlan o) → i < e.stage.entered → is_some (made_of new o) ≡ true
-      share-made i o about_o l = some-made o (λ g. by g (cases_lt (suc i) e.stage.entered))
+      pub share-made : (i : ℕ) (o : Plan) → about_at job i ≡ Some (SharePlan o) → is_of_structure o ≡ false → i < e.stage.entered → is_some (made_of new o) ≡ true
+      share-made i o about_o off l = some-made o (λ g. by g (cases_lt (suc i) e.stage.entered))
         where
           by : same_plan o plan ≡ false → (suc i < e.stage.entered) ⊎ (e.stage.entered ≤ suc i) → is_some (made_of old o) ≡ true
-          by g (inl a) = k.finished i o about_o a
+          by g (inl a) = k.finished i o about_o off a
           by g (inr a) =
               let same : i ≡ n = (let here = e.here in omega (arith, a, l, here)) in
               let two : Some (SharePlan plan) ≡ Some (SharePlan o) = sym at ∙ ap (about_at job) (sym same) ∙ about_o in
@@ -236,7 +191,7 @@ module _ {S : Type 0} (R : Semiring S) (F : Conversions S) (job : Job) (files : 
         let plan = ImportPlan source target in
         subst (IsJobImport job files source target p)
         (λ t. import_of (sym k.me t) (sym k.ranks t) (list_of job source (sym k.me t)) (list_of job target (sym k.me t)) (own_of old plan) (told_of old plan))
-        (import-is job files source target p (own_of old plan) (told_of old plan) k.stage.within k.valid.limits.ranks (share-owns plan is) (share-told plan is))
+        (job-import-is job files source target p (own_of old plan) (told_of old plan) k.stage.within k.valid.limits.ranks (share-owns plan is) (share-told plan is))
 
     pub share-export : about ≡ SharePlan (ExportPlan source target)
         → IsMadePlan job files p (ExportPlan source target)

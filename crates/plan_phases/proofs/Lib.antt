@@ -2,6 +2,7 @@ pub mod Begun
 pub mod Passing
 pub mod WordsStage
 pub mod AbsorbedBook
+pub mod SharedBook
 pub mod FinishedBook
 pub mod WordsSent
 pub mod AbsorbedResults
@@ -11,4 +12,8 @@ pub mod EnteringMaps
 pub mod EnteringPlans
 pub mod EnteringAnswers
 pub mod EnteringBounds
+pub mod EnteringLists
 pub mod MapPlans
+pub mod AscendingPairs
+pub mod StructureLists
+pub mod StructurePlans

@@ -24,10 +24,10 @@ numbers-of-no-plan (SendNumbers stage) plan e f = let bad : ⊥ = cc in bad
 
 module _ {S : Type 0} (R : Semiring S) (F : Conversions S) where
   pub books_begin : BooksBegin R F
-  books_begin = λ job files p view valid fitting vectors known. record {
+  books_begin = λ job files p view valid fitting phased known. record {
     valid = valid;
     fitting = fitting;
-    vectors = vectors;
+    phased = phased;
     stage = ranks_begin R F job files (record (with_book view (empty_book job p)) { own = λ plan q. remote job files plan p q }) p known
         (let few = phases_are_few job valid in omega (arith, few));
     me = refl;
@@ -44,7 +44,7 @@ module _ {S : Type 0} (R : Semiring S) (F : Conversions S) where
     known = λ n plan g at l on. absurd (let bad : ⊥ = omega (arith, l) in bad);
     none_told = λ plan. refl;
     made = λ plan lists is. absurd (let bad : ⊥ = cc in bad);
-    finished = λ n plan at l. absurd (let bad : ⊥ = omega (arith, l) in bad);
+    finished = λ n plan at off l. absurd (let bad : ⊥ = omega (arith, l) in bad);
   }
 
   pub books_pass_numbers : BooksPassNumbers R F
@@ -74,7 +74,7 @@ module _ {S : Type 0} (R : Semiring S) (F : Conversions S) where
   books_stay = λ job files b view new s letters kept same stands_so. record {
     valid = kept.valid;
     fitting = kept.fitting;
-    vectors = kept.vectors;
+    phased = kept.phased;
     stage = stands_so;
     me = kept.me;
     ranks = kept.ranks;

@@ -15,10 +15,9 @@ use Rattle.rank_plans.specs.Answers.{word_of}
 use Rattle.rank_plans.specs.Books.{Book, asked_of, directory_of, has_map, lacking_of, own_of}
 use Rattle.rank_plans.specs.Books as book
 use Rattle.rank_stages.specs.OwnerLaws.{plan_about}
-use Rattle.vector_jobs.specs.VectorPhases.{IsMapPlan}
 use Rattle.plan_phases.specs.BookStages.{IsBookStage}
 use Rattle.plan_phases.specs.BookCalls.{IsSendingBook}
-use Rattle.plan_phases.proofs.WordsStage.{answers-told, own-remote, owners-there, plan-begun, plan-maps}
+use Rattle.plan_phases.proofs.WordsStage.{answers-told, own-remote, owners-there, plan-begun}
 
 module _ {S : Type 0} (R : Semiring S) (F : Conversions S) (job : Job) (files : List File) (b : Book) (about : About) (to : ℕ)
     (e : IsSendingBook R F job files b about to) where
@@ -41,9 +40,6 @@ module _ {S : Type 0} (R : Semiring S) (F : Conversions S) (job : Job) (files : 
       same (size_of job (owner_map job plan)) begun.size
       ∙ (λ t. homed (k.ranks t) (size_of job (owner_map job plan)) to (begun.lacked t))
       ∙ ap (λ a. entries_about job files i a e.stage.rank to) (sym is)
-
-  pub sent-maps : (plan : Plan) → about ≡ TellOwners plan → IsMapPlan job plan
-  sent-maps plan is = plan-maps R F job files b e.view e.stage k e.phase about e.is low plan (ap plan_about is)
 
   pub sent-directory : (m : ℕ) (plan : Plan) → about ≡ TellOwners plan → m ≡ owner_map job plan → has_map b m ≡ true
   sent-directory m plan is of = ap (has_map b) of ∙ owners-there R F job files b e.view e.stage k e.phase about e.is low plan is

@@ -1,5 +1,6 @@
 -- What a rank's book has in a phase that was entered.
 use Rattle.std.proofs.Common.{◌≡◌, ℕ, ◌<◌, ◌≤◌, true, List, get_or, All, Option, None, Some, filter, map, length, refl, sym, ap, subst, ◌∙◌, arith}
+use Rattle.std.specs.Prelude.{slice_get}
 use Rattle.std.specs.Option.{is_some}
 use Rattle.scalar_laws.specs.Semiring.{Semiring}
 use Rattle.scalar_laws.specs.Conversions.{Conversions}
@@ -16,6 +17,7 @@ use Rattle.model_defs.specs.Limits.{IsSmallForm}
 use Rattle.model_defs.specs.declared.job.MapForm.{MapForm}
 use Rattle.model_defs.specs.declared.job.MapForm.TheVariants.{Uniform, Blocks, Cyclic, Lists}
 use Rattle.model_defs.specs.Maps.{layout_of, list_of, map_at, size_of}
+use Rattle.model_defs.specs.Phases.{phases}
 use Rattle.model_defs.specs.Plans.{lacking, remote}
 use Rattle.model_defs.specs.Transfers.{owner_map}
 use Rattle.model_defs.specs.Valid.{IsOwnerMap, IsValid}
@@ -32,8 +34,9 @@ use Rattle.rank_stages.specs.PhaseOrder.{IsEarlierAbout, IsPrepared}
 use Rattle.rank_stages.specs.Views.{View}
 use Rattle.rank_stages.proofs.Owners.{answers_are_owners, earlier_phases_are_left, indices_have_one_owner, remotes_are_by_owners}
 use Rattle.rank_stages.proofs.Prepared.{phases_are_prepared}
-use Rattle.vector_jobs.specs.VectorPhases.{IsMapPlan}
+use Rattle.value_phases.specs.ValuePhases.{IsPlanOf}
 use Rattle.plan_phases.specs.BookStages.{IsBegun, IsBookStage}
+use Rattle.plan_phases.proofs.MapPlans.{phase-of}
 
 -- a map of the job has at most 2^40 indices
 pub sizes-small : (job : Job) (m : ℕ) → IsValid job → m < length job.maps → size_of job m ≤ 1099511627776
@@ -59,7 +62,7 @@ owned-same q (Some p) = refl
 module _ {S : Type 0} (R : Semiring S) (F : Conversions S) (job : Job) (files : List File) (b : Book) (view : View S) (s : Stage)
     (k : IsBookStage R F job files b view s) (n : ℕ) (about : About) (at : about_at job n ≡ Some about) (l : n < s.entered) where
   pub map-known : (m : ℕ) → about ≡ RegisterMap m → m < length job.maps
-  map-known m is = k.vectors.maps n m (at ∙ ap Some is)
+  map-known m is = k.phased.maps n m (at ∙ ap Some is)
 
   pub map-there : (m : ℕ) → about ≡ RegisterMap m → has_map b m ≡ true
   map-there m is = ap is_some (k.maps n m (at ∙ ap Some is) l)
@@ -70,8 +73,10 @@ module _ {S : Type 0} (R : Semiring S) (F : Conversions S) (job : Job) (files : 
   pub plan-there : (plan : Plan) → plan_about about ≡ Some plan → has_plan b plan ≡ true
   plan-there plan of = ap is_some (plan-begun plan of).size
 
-  pub plan-maps : (plan : Plan) → plan_about about ≡ Some plan → IsMapPlan job plan
-  plan-maps plan of = k.vectors.plans n about plan at of
+  pub plan-of-job : (plan : Plan) → plan_about about ≡ Some plan → (i : ℕ) × IsPlanOf job i plan
+  plan-of-job plan of =
+      let found = phase-of (slice_get (phases job) n) about at in
+      (found.0.value, k.phased.plans n found.0 plan found.1.0 (ap plan_about found.1.1 ∙ of))
 
   pub one-owner : (m : ℕ) → map_about job about ≡ Some m → IsOwnerMap job m
   one-owner m of = indices_have_one_owner job n m about k.valid at of

@@ -1,5 +1,5 @@
 -- What a rank's book of maps and plans has, by the phases that the rank entered and the letters that it absorbed.
-use Rattle.std.specs.Prelude.{◌≡◌, ℕ, suc, ◌<◌, true, List, [], Some, is_some}
+use Rattle.std.specs.Prelude.{◌≡◌, ℕ, suc, ◌<◌, true, false, List, [], Some, is_some}
 use Rattle.scalar_laws.specs.Semiring.{Semiring}
 use Rattle.scalar_laws.specs.Conversions.{Conversions}
 use Rattle.map_core.specs.Layouts.{owner, stands}
@@ -22,7 +22,7 @@ use Rattle.rank_stages.specs.JobStages.{IsJobStage, about_at}
 use Rattle.rank_stages.specs.OwnerLaws.{plan_about}
 use Rattle.rank_stages.specs.Views.{View}
 use Rattle.rank_transfers.specs.JobRows.{IsJobExport, IsJobImport}
-use Rattle.vector_jobs.specs.VectorPhases.{HasVectorPhases}
+use Rattle.value_phases.specs.ValuePhases.{HasValuePhases, is_of_structure}
 
 -- the view with what the book has
 abbrev pub with_book : {S : Type 0} → View S → Book → View S
@@ -47,7 +47,7 @@ pub record IsBegun (job : Job) (files : List File) (b : Book) (p : ℕ) (plan : 
   pub size : book.size_of b plan ≡ Some (size_of job (owner_map job plan))
   pub lacked : lacking_of b plan ≡ lacking job files plan p
 
--- the lists are those of rank p's import or export by the plan
+-- the lists are those of rank p's import or export by the plan; a plan of a structure is not kept in the book
 abbrev pub IsMadePlan : Job → List File → ℕ → Plan → PlanLists → Type 0
 IsMadePlan job files p (ImportPlan source target) lists = IsJobImport job files source target p lists
 IsMadePlan job files p (ExportPlan source target) lists = IsJobExport job files source target p lists
@@ -58,7 +58,7 @@ module _ {S : Type 0} (R : Semiring S) (F : Conversions S) (job : Job) (files : 
   pub record IsBookStage (b : Book) (view : View S) (s : Stage) : Type 0 where
     pub valid : IsValid job
     pub fitting : IsFitting job files
-    pub vectors : HasVectorPhases job
+    pub phased : HasValuePhases job
     pub stage : IsJobStage R F job files view s
     pub me : b.me ≡ s.rank
     pub ranks : b.ranks ≡ job.ranks
@@ -79,6 +79,7 @@ module _ {S : Type 0} (R : Semiring S) (F : Conversions S) (job : Job) (files : 
         → stands g (lacking job files plan s.rank) ≡ true → owners_of b plan g ≡ owner (layout_of job (owner_map job plan)) g
     -- the rank tells itself nothing
     pub none_told : (plan : Plan) → told_of b plan s.rank ≡ []
-    -- the plans that were made are imports and exports, and those of phases that were left were made
+    -- the plans that were made are imports and exports between maps, and those of phases that were left were made
     pub made : (plan : Plan) (lists : PlanLists) → made_of b plan ≡ Some lists → IsMadePlan job files s.rank plan lists
-    pub finished : (n : ℕ) (plan : Plan) → about_at job n ≡ Some (SharePlan plan) → suc n < s.entered → is_some (made_of b plan) ≡ true
+    pub finished : (n : ℕ) (plan : Plan) → about_at job n ≡ Some (SharePlan plan) → is_of_structure plan ≡ false → suc n < s.entered
+        → is_some (made_of b plan) ≡ true

@@ -12,6 +12,7 @@ ghost use Rattle.rank_plans.specs.Answers.{lacked_in};
 ghost use Rattle.rank_plans.specs.Books.{has_plan, lacking_of, made_of, own_of, slices, told_of};
 ghost use Rattle.rank_plans.specs.Tasks.{export_of, import_of};
 ghost use Rattle.rank_stages.specs.JobStages.{about_at};
+ghost use Rattle.value_phases.specs.ValuePhases.{is_of_structure};
 ghost use Rattle.plan_phases.specs.BookStages.{IsBookStage};
 ghost use Rattle.plan_phases.specs.BookCalls.{IsLeavingBook};
 
@@ -21,8 +22,9 @@ use rank_share::own_map;
 use scalar_laws::Scalar;
 use std::alloc::{AllocError, Global};
 
-/// Finishes the phase that the rank is in, once all letters of it came. Where it shared a plan this is made: its positions are local
-/// indices of the rank's lists of the two maps. All else stays. `Err` means that memory ran out.
+/// Finishes the phase that the rank is in, once all letters of it came. Where it shared a plan between two maps this is made: its
+/// positions are local indices of the rank's lists of the two maps. The plan of a structure is not kept in the book (see
+/// `structure_plan`). All else stays. `Err` means that memory ran out.
 pub fn finish_phase<S: Scalar>(
     alloc: Global,
     book: &mut PlanBook,
@@ -33,7 +35,7 @@ pub fn finish_phase<S: Scalar>(
     ensures kept { OnOk result ((files : List File) (e : IsLeavingBook S.semiring S.conversions job.now files book.old about)
         → IsBookStage S.semiring S.conversions job.now files book.new e.view e.stage) }
     ensures made { OnOk result ((files : List File) (e : IsLeavingBook S.semiring S.conversions job.now files book.old about) (n : ℕ) (plan : Plan)
-        → about_at job.now n ≡ Some (SharePlan plan) → n < e.stage.entered → is_some (made_of book.new plan) ≡ true) }
+        → about_at job.now n ≡ Some (SharePlan plan) → is_of_structure plan ≡ false → n < e.stage.entered → is_some (made_of book.new plan) ≡ true) }
 {
     match about {
         About::SharePlan { plan } => finish_share::<S>(alloc, book, job, plan),
@@ -41,7 +43,7 @@ pub fn finish_phase<S: Scalar>(
     }
 }
 
-/// Makes the plan that was shared, of an import or of an export. `Err` means that memory ran out.
+/// Makes the plan that was shared, where it is one of an import or of an export. `Err` means that memory ran out.
 fn finish_share<S: Scalar>(
     alloc: Global,
     book: &mut PlanBook,
@@ -52,12 +54,12 @@ fn finish_share<S: Scalar>(
     ensures kept { OnOk result ((files : List File) (e : IsLeavingBook S.semiring S.conversions job.now files book.old (SharePlan plan))
         → IsBookStage S.semiring S.conversions job.now files book.new e.view e.stage) }
     ensures made { OnOk result ((files : List File) (e : IsLeavingBook S.semiring S.conversions job.now files book.old (SharePlan plan)) (n : ℕ) (other : Plan)
-        → about_at job.now n ≡ Some (SharePlan other) → n < e.stage.entered → is_some (made_of book.new other) ≡ true) }
+        → about_at job.now n ≡ Some (SharePlan other) → is_of_structure other ≡ false → n < e.stage.entered → is_some (made_of book.new other) ≡ true) }
 {
     match plan {
         Plan::ImportPlan { source, target } => make_import(alloc, book, job, source, target),
         Plan::ExportPlan { source, target } => make_export(alloc, book, job, source, target),
-        _ => unreachable!(),
+        Plan::ColumnPlan { .. } | Plan::RowPlan { .. } => Ok(()),
     }
 }
 

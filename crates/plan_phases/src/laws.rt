@@ -1,5 +1,5 @@
 //! Laws of a rank's book. Each function has an empty body: what it proves is its contract.
-ghost use Rattle.plan_phases.specs.Laws.{BooksBegin, BooksPassNumbers, BooksStay};
+ghost use Rattle.plan_phases.specs.Laws.{BooksBegin, BooksPassNumbers, BooksStay, ColumnMapsAreLists, RowsAreLists};
 
 use scalar_laws::Scalar;
 
@@ -12,4 +12,10 @@ pub fn books_begin<S: Scalar>()
 pub fn books_pass_numbers<S: Scalar>()
     ensures entered { BooksPassNumbers S.semiring S.conversions }
     ensures absorbed { BooksStay S.semiring S.conversions }
+{}
+
+/// The column map of a matrix and the rows of a rank's part are lists of the plans of its structure.
+pub fn structures_are_lists()
+    ensures columns { ColumnMapsAreLists }
+    ensures rows { RowsAreLists }
 {}

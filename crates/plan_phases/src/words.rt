@@ -3,11 +3,13 @@ ghost use Rattle.std.specs.Prelude.{◌≡◌, ℕ, ◌<◌, List, length, IfOk}
 ghost use Rattle.mm_text.specs.Reading.{File};
 ghost use Rattle.model_defs.specs.declared.phase.About.TheVariants.{RegisterMap};
 ghost use Rattle.model_defs.specs.Letters.{entries_about};
+ghost use Rattle.model_defs.specs.ShapeLists.{at_list};
+ghost use Rattle.model_defs.specs.Shapes.{shape};
 ghost use Rattle.model_defs.specs.Valid.{IsValid};
 ghost use Rattle.plan_phases.specs.BookCalls.{IsSendingBook};
 
 use crate::maps::owner_map;
-use model_defs::{About, Job};
+use model_defs::{About, Job, Shape};
 use rank_plans::PlanBook;
 use rank_share::own_map;
 use scalar_laws::Scalar;
@@ -15,14 +17,16 @@ use std::alloc::{AllocError, Global};
 
 /// The words of the rank's letter to rank `to`, another one, in the phase that it entered last and that is about a map or a plan:
 /// the indices that it registers there, those whose owners it asks for, the owners that it answers, or the indices that it lacks of
-/// that rank. `Err` means that memory ran out.
+/// that rank. `shapes` are those of the job's values. `Err` means that memory ran out.
 pub fn phase_words<S: Scalar>(
     alloc: Global,
     book: &PlanBook,
     job: &Job,
+    shapes: &[Shape],
     about: About,
     to: u32,
 ) -> Result<Vec<u64>, AllocError>
+    requires shapes { at_list shapes.now ≡ shape job.now }
     requires sends { (files : List File) × IsSendingBook S.semiring S.conversions job.now files book.now about to }
     ensures words { IfOk result (λ words. (files : List File) (k : ℕ) (e : IsSendingBook S.semiring S.conversions job.now files book.now about to)
         → words.items ≡ entries_about job.now files k about e.stage.rank to) }
@@ -30,7 +34,7 @@ pub fn phase_words<S: Scalar>(
     match about {
         About::RegisterMap { map } => registered_words(alloc, book, job, map, to),
         About::AskOwners { plan } => book.ask_words(plan, to),
-        About::TellOwners { plan } => book.tell_words(plan, owner_map(job, plan), to),
+        About::TellOwners { plan } => book.tell_words(plan, owner_map(shapes, plan), to),
         About::SharePlan { plan } => book.share_words(plan, to),
         About::SendNumbers { .. } => unreachable!(),
     }

@@ -1,5 +1,5 @@
 -- A worker absorbs a letter of words.
-use Rattle.std.proofs.Common.{◌≡◌, ℕ, suc, false, if◌then◌else◌, List, [], ◌∷◌, None, Some, refl, sym, ap, subst, ◌∙◌}
+use Rattle.std.proofs.Common.{◌≡◌, ℕ, suc, ◌≤◌, false, if◌then◌else◌, List, [], ◌∷◌, ◌++◌, length, Option, None, Some, refl, sym, ap, subst, ◌∙◌, arith}
 use Rattle.std.specs.Prelude.{slice_get}
 use Rattle.std.specs.Option.{option_map}
 use Rattle.std.proofs.lemmas.Bool.{ne_eqb}
@@ -27,10 +27,19 @@ use Rattle.plan_phases.specs.BookStages.{IsBookStage, with_book}
 use Rattle.rank_core.specs.declared.counts.EntryCounts.{EntryCounts}
 use Rattle.rank_core.specs.declared.worker.JobWorker.{JobWorker}
 use Rattle.rank_core.specs.Counts.{count_of}
-use Rattle.rank_core.specs.Gatherings.{IsGatheringAt}
+use Rattle.rank_core.specs.declared.makings.Making.{Making}
+use Rattle.rank_core.specs.declared.makings.Making.TheVariants.{Arriving, Arrived, Filled}
+use Rattle.rank_core.specs.Makings.{IsMakingIn}
+use Rattle.rank_makings.specs.declared.coming.Coming.{Coming}
+use Rattle.rank_pieces.specs.declared.pieces.Piece.{Piece}
+use Rattle.value_phases.specs.ValuePhases.{HasValuePhases}
+use Rattle.tables.specs.Tables.{Table}
+use Rattle.peers.specs.Protocols.{Letter}
 use Rattle.rank_core.specs.Results.{HasEntries}
-use Rattle.rank_core.specs.Workers.{IsJobWorker}
-use Rattle.rank_core.proofs.Entered.{plain-otherwise}
+use Rattle.rank_core.specs.Workers.{IsJobWorker, IsMakingAt}
+use Rattle.rank_core.proofs.Counted.{value-here}
+use Rattle.rank_core.proofs.PackedLetters.{making-in, words-alone}
+use Rattle.rank_core.proofs.Standing.{filled-stays, pieces-stay}
 use Rattle.rank_core.proofs.RankNames.{apart, from-known}
 use Rattle.rank_core.proofs.MoreLetters.{counted}
 
@@ -42,21 +51,22 @@ any-value job files (TellOwners plan) p q k l e = refl
 any-value job files (SharePlan plan) p q k l e = refl
 any-value job files (SendNumbers t) p q k l e = absurd (let bad : ⊥ = cc in bad)
 
--- where no vector comes, the phase that was entered last sends no numbers
-pub words-alone : {S : Type 0} (R : Semiring S) (F : Conversions S) (worker : JobWorker S) (s : Stage) → IsJobWorker R F worker s → worker.gathering ≡ None
-    → (n : ℕ) → suc n ≡ s.entered → (x : Phase) → slice_get (phases worker.job.value) n ≡ Some x → sends_numbers x.about ≡ false
-words-alone R F worker s stands none n here x at =
-    plain-otherwise x.about (λ t e.
-    subst (IsGatheringAt worker.job.value stands.files worker.me s.entered _ stands.view.gathered) none stands.gathering n t here
-    (ap (option_map (λ (p : Phase). p.about)) at ∙ ap (λ a. Some a) e))
+-- what is being made stays what it is
+making-stays : {S : Type 0} (R : Semiring S) (F : Conversions S) (job : Job) (files : List File) (me : ℕ) (pieces : List (Piece S)) (given : List Letter) (phased : HasValuePhases job) (n k : ℕ) (l : Letter)
+    → n ≤ l.0.phase → (gathered : ℕ → ℕ → Table S) → (making : Option (Making S)) → ((c : Coming S) → making ≡ Some (Arriving c) → ⊥) → IsMakingIn R F job files me pieces given n k gathered making
+    → IsMakingIn R F job files me pieces (given ++ l ∷ []) n k gathered making
+making-stays R F job files me pieces given phased n k l low gathered None none is = is
+making-stays R F job files me pieces given phased n k l low gathered (Some (Arriving c)) none is = absurd (none c refl)
+making-stays R F job files me pieces given phased n k l low gathered (Some (Arrived v)) none is = absurd is
+making-stays R F job files me pieces given phased n k l low gathered (Some (Filled fill)) none (x, filled) = (x, filled-stays R F job files me phased n k given l pieces fill low x filled)
 
 module _ {S : Type 0} (R : Semiring S) (F : Conversions S) (worker : JobWorker S) (s : Stage) (stands : IsJobWorker R F worker s) (name : Name) (bytes : List ℕ)
-    (can : CanAbsorb s name bytes) (none : worker.gathering ≡ None) (x : Phase) (at : slice_get (phases worker.job.value) name.phase ≡ Some x) where
+    (can : CanAbsorb s name bytes) (phased : HasValuePhases worker.job.value) (none : (c : Coming S) → worker.making ≡ Some (Arriving c) → ⊥) (x : Phase) (at : slice_get (phases worker.job.value) name.phase ≡ Some x) where
   abbrev job : Job
   job = worker.job.value
 
   plain : sends_numbers x.about ≡ false
-  plain = words-alone R F worker s stands none name.phase can.here x at
+  plain = words-alone R F worker s stands none name.phase can.here x at (value-here worker.job.value worker.values.items s.entered stands.values.many name.phase can.here x at)
 
   about-is : about_at worker.job.value name.phase ≡ Some x.about
   about-is = ap (option_map (λ (p : Phase). p.about)) at
@@ -122,7 +132,9 @@ module _ {S : Type 0} (R : Semiring S) (F : Conversions S) (worker : JobWorker S
             phase_count = stands.worker_of.phase_count;
           };
           book = absorbed stands.files absorbing-book;
-          values = stands.values;
-          gathering = stands.gathering;
+          values = pieces-stay R F job stands.files worker.me phased s.entered s.absorbed (name, bytes) worker.values.items (let here = can.here in omega arith) stands.values;
+          making = subst (IsMakingAt R F (record worker { book = new; counts = counts }) stands.files (absorbing s ((name, bytes) ∷ [])) stands.view.gathered) can.here
+              (making-stays R F job stands.files worker.me worker.values.items s.absorbed phased name.phase (length worker.values.items) (name, bytes) (omega arith) stands.view.gathered worker.making none
+              (making-in R F worker s stands name.phase can.here));
           counts = counted worker.counts counts name bytes count s stands.counts can.first has put;
         }

@@ -9,12 +9,12 @@ use Rattle.scalar_laws.specs.Conversions.{Conversions, AreConversions}
 use Rattle.tables.specs.Tables.{nowhere}
 use Rattle.mm_text.specs.Reading.{File}
 use Rattle.outside.specs.declared.name.Name.{Name}
-use Rattle.multivector.specs.Vectors.{VectorState}
+use Rattle.rank_pieces.specs.declared.pieces.Piece.{Piece}
+use Rattle.rank_pieces.specs.Pieces.{piece_table}
 use Rattle.peers.specs.Peers.{PeerState, was_given}
 use Rattle.peers.specs.Protocols.{Letter, stands_in}
 use Rattle.rank_phases.specs.Phases.{absorbed}
-use Rattle.rank_phases.specs.PhasedPeers.{IsResult, course_of}
-use Rattle.rank_phases.specs.Ranks.{stage_of}
+use Rattle.rank_phases.specs.PhasedPeers.{IsResult}
 use Rattle.model_defs.specs.declared.job.Job.{Job}
 use Rattle.model_defs.specs.Machine.{arrivals, piece}
 use Rattle.model_defs.specs.Makers.{value_count}
@@ -22,8 +22,8 @@ use Rattle.model_defs.specs.Phases.{phases}
 use Rattle.model_defs.specs.Stages.{make_piece}
 use Rattle.model_defs.specs.Turns.{Each, in_turn}
 use Rattle.job_phases.proofs.ByPhase.{goes-by-phase}
-use Rattle.rank_stages.proofs.MadeValues.{all_are_made_at_the_end, pieces_are_by_phase}
-use Rattle.rank_values.specs.Vectors.{HasOver, global_table, is_over_there}
+use Rattle.rank_stages.proofs.MadeValues.{pieces_are_by_phase}
+use Rattle.rank_values.specs.Vectors.{HasOver, is_over_there}
 use Rattle.rank_core.specs.declared.rank.Rank.{Rank}
 use Rattle.rank_core.specs.declared.worker.JobWorker.{JobWorker}
 use Rattle.rank_core.specs.Counts.{count_of}
@@ -83,17 +83,10 @@ module _ {S : Type 0} (R : Semiring S) (F : Conversions S) (laws : AreConversion
       ap (λ e. piece R F worker.job.value result.stands_so.files s.me v (absorbed e s.given)) ended
       ∙ pieces_are_by_phase R F worker.job.value result.stands_so.files s.me v s.given
 
-  pub result-some : (v : ℕ) (vector : VectorState S) → slice_get worker.values.items v ≡ Some vector → global_table vector ≡ result_table F s v
-  result-some v vector at =
-      let low = slice_get_within worker.values.items v vector at in
-      let count = many in
-      let past = result.at_end done.given in
-      let made =
-      all_are_made_at_the_end R F worker.job.value result.stands_so.files result.stands_so.view (stage_of (course_of s result.phases []) result.entered) v
-      result.stands_so.book.stage (omega arith) (omega arith)
-      in
-      same_Some (global_table vector) (piece R F worker.job.value result.stands_so.files s.me v (absorbed result.entered s.given))
-      (sym (ap (λ f. f v) result.stands_so.values.tables ∙ ap (option_map global_table) at) ∙ made)
+  pub result-some : (v : ℕ) (p : Piece S) → slice_get worker.values.items v ≡ Some p → piece_table p ≡ result_table F s v
+  result-some v p at =
+      (result.stands_so.values.each v p at).table
+      ∙ ap (λ q. piece R F worker.job.value result.stands_so.files q v (absorbed result.entered s.given)) (sym result.stands_so.worker_of.rank)
       ∙ absorbed-piece v ∙ sym (result-is v)
 
   pub result-none : (v : ℕ) → length worker.values.items ≤ v → result_table F s v ≡ nowhere
@@ -101,7 +94,7 @@ module _ {S : Type 0} (R : Semiring S) (F : Conversions S) (laws : AreConversion
 
   -- none of the vectors is over, so no result is
   pub none-over : (n : ℕ) → length worker.values.items ≤ n
-      → ((k : ℕ) (vector : VectorState S) → k < n → slice_get worker.values.items k ≡ Some vector → (i j : ℕ) → is_over_there F (global_table vector i j) ≡ false)
+      → ((k : ℕ) (p : Piece S) → k < n → slice_get worker.values.items k ≡ Some p → (i j : ℕ) → is_over_there F (piece_table p i j) ≡ false)
       → (v i j : ℕ) → is_over_there F (result_table F s v i j) ≡ false
   none-over n all none v i j = elim (cases_lt v (length worker.values.items)) [
     | inl low ↦
@@ -111,9 +104,9 @@ module _ {S : Type 0} (R : Semiring S) (F : Conversions S) (laws : AreConversion
   ]
 
   -- one of them is over, so a result is
-  pub some-over : (v : ℕ) (vector : VectorState S) → slice_get worker.values.items v ≡ Some vector → HasOver F (global_table vector)
+  pub some-over : (v : ℕ) (p : Piece S) → slice_get worker.values.items v ≡ Some p → HasOver F (piece_table p)
       → (w : ℕ) × ((i : ℕ) × ((j : ℕ) × (is_over_there F (result_table F s w i j) ≡ true)))
-  some-over v vector at over = (v, (over.0, (over.1.0, ap (λ t. is_over_there F (t over.0 over.1.0)) (sym (result-some v vector at)) ∙ over.1.1)))
+  some-over v p at over = (v, (over.0, (over.1.0, ap (λ t. is_over_there F (t over.0 over.1.0)) (sym (result-some v p at)) ∙ over.1.1)))
 
   -- a letter that was given is of a phase that was entered
   entered-before : (rank : Rank S) → IsRank R F rank s → (n : Name) → was_given s.given n ≡ true → n.phase < result.entered

@@ -1,45 +1,56 @@
--- The letters that a rank packs.
-use Rattle.std.proofs.Common.{◌≡◌, ℕ, ◌<◌, ◌≤◌, false, eqb, List, [], length, get_or, None, Some, sym, ap, ◌∙◌, subst, arith}
+-- What a worker packs is the letter of the job.
+use Rattle.std.proofs.Common.{◌≡◌, ℕ, suc, ◌<◌, ◌≤◌, false, eqb, List, [], length, get_or, Option, None, Some, refl, sym, ap, ◌∙◌, subst, arith}
 use Rattle.std.specs.Prelude.{slice_get}
 use Rattle.std.specs.Option.{option_map}
-use Rattle.std.proofs.lemmas.Option.{slice_get-get_or}
+use Rattle.std.proofs.lemmas.Option.{same_Some}
 use Rattle.scalar_laws.specs.Semiring.{Semiring}
 use Rattle.scalar_laws.specs.Conversions.{Conversions}
-use Rattle.tables.specs.Indices.{AreBelow}
-use Rattle.map_core.specs.Plans.{export_list}
-use Rattle.letter_codec.specs.Letters.{letter_bytes}
 use Rattle.mm_text.specs.Reading.{File}
-use Rattle.multivector.specs.Vectors.{VectorState}
 use Rattle.outside.specs.declared.name.Name.{Name}
+use Rattle.letter_codec.specs.Letters.{letter_bytes}
 use Rattle.rank_phases.specs.Stages.{Stage, CanSend}
 use Rattle.model_defs.specs.declared.job.Job.{Job}
 use Rattle.model_defs.specs.declared.phase.Phase.{Phase}
 use Rattle.model_defs.specs.Letters.{entries_about, sent_places}
 use Rattle.model_defs.specs.Machine.{arrivals, place_bytes}
-use Rattle.model_defs.specs.Makers.{maker_of}
-use Rattle.model_defs.specs.Maps.{list_of}
 use Rattle.model_defs.specs.Phases.{phases, send_kind}
-use Rattle.model_defs.specs.Plans.{sent_rows}
-use Rattle.model_defs.specs.Shapes.{shape}
-use Rattle.model_defs.specs.Stages.{first_pieces, gathered_after, rank_entries, transfer_at}
+use Rattle.model_defs.specs.Stages.{rank_entries}
 use Rattle.rank_stages.specs.LetterLaws.{row_words, sends_numbers}
 use Rattle.rank_stages.proofs.LetterForms.{numbers_are_packed, plans_are_packed}
 use Rattle.plan_phases.specs.BookCalls.{IsSendingBook}
-use Rattle.rank_transfers.specs.Arrivals.{rows_to, table_letter}
-use Rattle.rank_transfers.proofs.JobBytes.{letters-are-content}
-use Rattle.rank_values.specs.Vectors.{global_table}
-use Rattle.rank_core.specs.declared.gathering.Gathering.{Gathering}
+use Rattle.value_phases.specs.ValuePhases.{HasValuePhases}
+use Rattle.rank_pieces.specs.declared.pieces.Piece.{Piece}
+use Rattle.rank_makings.specs.declared.coming.Coming.{Coming}
+use Rattle.rank_makings.specs.Comings.{HasLetterTo, IsComing, IsComingIn, Scene, letter_to}
+use Rattle.rank_core.specs.declared.makings.Making.{Making}
+use Rattle.rank_core.specs.declared.makings.Making.TheVariants.{Arriving, Arrived, Filled}
 use Rattle.rank_core.specs.declared.worker.JobWorker.{JobWorker}
-use Rattle.rank_core.specs.Gatherings.{IsGatheringIn}
-use Rattle.rank_core.specs.Pieces.{AreOwnValues}
-use Rattle.rank_core.specs.Workers.{IsJobWorker}
-use Rattle.rank_core.proofs.AbsorbedWords.{words-alone}
-use Rattle.rank_core.proofs.CopiedLetters.{copied, is-in, sent-in, serves}
-use Rattle.rank_core.proofs.CopyRows.{entries-copied}
-use Rattle.rank_core.proofs.OwnValues.{before}
+use Rattle.rank_core.specs.Makings.{IsMakingIn, IsSending}
+use Rattle.rank_core.specs.Workers.{IsJobWorker, IsMakingAt}
+use Rattle.rank_core.proofs.Entered.{plain-otherwise}
 use Rattle.rank_core.proofs.RankNames.{listed, phase-of, posted, to-known, to-other}
 use Rattle.rank_core.proofs.SentNames.{row-goes}
-use Rattle.rank_core.proofs.Standing.{own-values}
+use Rattle.rank_core.proofs.Turns.{sent-of-any}
+use Rattle.rank_core.proofs.Counted.{value-here}
+
+module _ {S : Type 0} (R : Semiring S) (F : Conversions S) (worker : JobWorker S) (s : Stage) (stands : IsJobWorker R F worker s) where
+  -- what is made in the phase that was entered last
+  pub making-in : (n : ℕ) → suc n ≡ s.entered
+      → IsMakingIn R F worker.job.value stands.files worker.me worker.values.items s.absorbed n (length worker.values.items) stands.view.gathered worker.making
+  making-in n here = subst (IsMakingAt R F worker stands.files s stands.view.gathered) (sym here) stands.making
+
+  -- where no numbers come, the phase that was entered last sends none
+  pub words-alone : ((c : Coming S) → worker.making ≡ Some (Arriving c) → ⊥) → (n : ℕ) → suc n ≡ s.entered → (x : Phase) → slice_get (phases worker.job.value) n ≡ Some x
+      → x.value ≡ length worker.values.items → sends_numbers x.about ≡ false
+  words-alone none n here x at value =
+      plain-otherwise x.about (λ t e. by t (record { phase = x; at = at; value = value; about = e }) worker.making refl (making-in n here))
+    where
+      by : (t : ℕ) → IsSending worker.job.value n (length worker.values.items) t → (making : Option (Making S)) → worker.making ≡ making
+          → IsMakingIn R F worker.job.value stands.files worker.me worker.values.items s.absorbed n (length worker.values.items) stands.view.gathered making → ⊥
+      by t sends None e is = is.0 t sends
+      by t sends (Some (Arriving c)) e is = none c e
+      by t sends (Some (Arrived v)) e is = is
+      by t sends (Some (Filled fill)) e (y, filled) = let before = y.after.sent t n (sent-of-any worker.job.value n (length worker.values.items) t sends) in absurd (omega arith)
 
 module _ {S : Type 0} (R : Semiring S) (F : Conversions S) (worker : JobWorker S) (s : Stage) (stands : IsJobWorker R F worker s) (name : Name) (send : CanSend s name) where
   abbrev job : Job
@@ -56,12 +67,12 @@ module _ {S : Type 0} (R : Semiring S) (F : Conversions S) (worker : JobWorker S
 
   -- ---- words
 
-  module _ (none : worker.gathering ≡ None) (x : Phase) (is : x ≡ get_or worker.phases.items name.phase x) where
+  module _ (none : (c : Coming S) → worker.making ≡ Some (Arriving c) → ⊥) (x : Phase) (is : x ≡ get_or worker.phases.items name.phase x) where
     at : slice_get (phases worker.job.value) name.phase ≡ Some x
     at = phase-of job worker.phases.items name.phase x stands.worker_of.phase_list phase-there is
 
     plain : sends_numbers x.about ≡ false
-    plain = words-alone R F worker s stands none name.phase send.here x at
+    plain = words-alone R F worker s stands none name.phase send.here x at (value-here worker.job.value worker.values.items s.entered stands.values.many name.phase send.here x at)
 
     pub sending-book : IsSendingBook R F worker.job.value stands.files worker.book x.about name.to
     sending-book = record {
@@ -85,75 +96,49 @@ module _ {S : Type 0} (R : Semiring S) (F : Conversions S) (worker : JobWorker S
         ∙ sym (plans_are_packed R F job stands.files name x s.absorbed at plain)
         ∙ ap (λ P. P.content name s.absorbed) (sym stands.book.stage.protocol)
 
-  -- ---- rows
+  -- ---- numbers
 
-  module _ (g : Gathering S) (some : worker.gathering ≡ Some g) (x : VectorState S) (is : x ≡ get_or worker.values.items g.source x) where
-    abbrev gathering : IsGatheringIn worker.job.value stands.files worker.me s.entered (length worker.values.items) stands.view.gathered g
-    gathering = is-in R F worker s stands g some
+  module _ (c : Coming S) (some : worker.making ≡ Some (Arriving c)) where
+    pub coming-now : (stage : ℕ) × (IsSending worker.job.value name.phase (length worker.values.items) stage
+        × IsComing R F worker.job.value stands.files worker.me worker.values.items s.absorbed (length worker.values.items) stage (stands.view.gathered (length worker.values.items) stage) c)
+    coming-now =
+        subst (IsMakingIn R F job stands.files worker.me worker.values.items s.absorbed name.phase (length worker.values.items) stands.view.gathered) some
+        (making-in R F worker s stands name.phase send.here)
 
     abbrev k : ℕ
     k = length worker.values.items
 
-    abbrev source : ℕ
-    source = gathering.is.copy.source
+    pub scene : Scene S
+    scene = record {
+      job = worker.job.value;
+      files = stands.files;
+      me = worker.me;
+      pieces = worker.values.items;
+      given = s.absorbed;
+      k = length worker.values.items;
+      stage = coming-now.0;
+      now = stands.view.gathered (length worker.values.items) coming-now.0;
+    }
 
-    abbrev rows : ℕ
-    rows = (shape job gathering.is.copy.source).rows
+    pub comes : IsComingIn R F scene c
+    unfolding scene
+    comes = coming-now.1.1
 
-    own : AreOwnValues R F worker.job.value stands.files worker.me s.absorbed (length worker.values.items) worker.values.items
-    own =
-        own-values R F job stands.files worker.me worker.share stands.worker_of.input stands.book.vectors stands.view s stands.book.stage stands.worker_of.rank
-        worker.values.items stands.values
+    pub pieces-are : (items : List (Piece S)) → items ≡ worker.values.items → scene.pieces ≡ items
+    unfolding scene
+    pieces-are items same = sym same
 
-    pub source-known : g.source < length worker.values.items
-    source-known = subst (λ n. n < length worker.values.items) (sym gathering.is.source) gathering.is.copy.before
+    pub has-letter : HasLetterTo scene name.to
+    unfolding scene
+    has-letter = record {
+      known = to-there;
+      some_row = row-goes job stands.files worker.me name.phase k coming-now.0 coming-now.1.0 stands.worker_of.input.rank
+          name (send.from ∙ stands.worker_of.rank) (posted R F job stands.files stands.view s stands.book.stage name send.named);
+    }
 
-    at_source : slice_get worker.values.items gathering.is.copy.source ≡ Some x
-    at_source =
-        ap (slice_get worker.values.items) (sym gathering.is.source) ∙ slice_get-get_or worker.values.items g.source x source-known ∙ ap (λ v. Some v) (sym is)
-
-    on_list : x.map ≡ list_of worker.job.value (shape worker.job.value gathering.is.copy.source).rows worker.me
-    on_list = (own.each source x at_source).map
-
-    many-columns : x.columns ≡ (shape worker.job.value (length worker.values.items)).columns
-    many-columns = (own.each source x at_source).columns ∙ sym gathering.is.copy.same_columns
-
-    pub to-rank : name.to < g.arriving.plan.ranks
-    to-rank = subst (λ n. name.to < n) (sym (serves R F worker s stands g some).ranks) to-there
-
-    pub same-columns : x.columns ≡ g.arriving.vector.columns
-    same-columns = many-columns ∙ sym gathering.is.columns
-
-    here : gathering.number ≡ name.phase
-    here = let last = gathering.last in let h = send.here in omega arith
-
-    at_phase : slice_get (phases worker.job.value) name.phase ≡ Some gathering.phase
-    at_phase = ap (slice_get (phases job)) (sym here) ∙ gathering.at
-
-    pub some-row : 1 ≤ length (export_list g.arriving.plan name.to)
-    some-row =
-        row-goes job stands.files worker.me name.phase gathering.phase at_phase gathering.about k gathering.value gathering.is.copy g.arriving.plan gathering.is.plan stands.worker_of.input.rank
-        name (send.from ∙ stands.worker_of.rank) to-there (posted R F job stands.files stands.view s stands.book.stage name send.named)
-
-    pub sources-below : AreBelow (length x.map) (export_list g.arriving.plan name.to)
-    sources-below = subst (λ m. AreBelow (length m) (export_list g.arriving.plan name.to)) (sym on_list) ((serves R F worker s stands g some).below name.to to-there)
-
-    rows-are : rows_to g.arriving.plan x.map name.to ≡ sent_rows worker.job.value stands.files (transfer_at worker.job.value (length worker.values.items) 0) worker.me name.to
-    rows-are = ap (λ m. rows_to g.arriving.plan m name.to) on_list ∙ (serves R F worker s stands g some).sent name.to to-there
-
-    -- its entries are the cells of the source
-    entries-are : global_table x ≡ rank_entries R F worker.job.value stands.files worker.me (arrivals R F worker.job.value stands.files worker.me s.absorbed) (length worker.values.items) 0
-    entries-are =
-        (own.each source x at_source).piece
-        ∙ sym (before R F job stands.files worker.me worker.share stands.worker_of.input s.absorbed k source gathering.is.copy.before gathering.is.copy.below)
-        ∙ sym (entries-copied R F job stands.files worker.me k (transfer_at job k 0).way 0 (first_pieces R F job stands.files worker.me (arrivals R F job stands.files worker.me s.absorbed) k)
-        (gathered_after R F job stands.files worker.me (arrivals R F job stands.files worker.me s.absorbed) k (first_pieces R F job stands.files worker.me (arrivals R F job stands.files worker.me s.absorbed) k) 0)
-        (maker_of job k) source gathering.is.copy.copied)
-
-    pub rows-content : table_letter R F x.columns (global_table x) (rows_to g.arriving.plan x.map name.to) ≡ s.protocol.content name s.absorbed
-    rows-content =
-        (λ t. table_letter R F (many-columns t) (entries-are t) (rows-are t))
-        ∙ letters-are-content R F job stands.files k source worker.me name.to (rank_entries R F job stands.files worker.me (arrivals R F job stands.files worker.me s.absorbed) k 0) (copied R F worker s stands g some)
-        ∙ ap (λ p. letter_bytes (send_kind job k) (row_words job stands.files k 0 p name.to)
-        (place_bytes R F (rank_entries R F job stands.files p (arrivals R F job stands.files p s.absorbed) k 0) (sent_places job stands.files k 0 p name.to))) (sym stands.worker_of.rank)
-        ∙ sym (numbers_are_packed R F job stands.files stands.view s name k 0 stands.book.stage send (sent-in R F worker s stands g some name.phase send.here))
+    pub numbers-content : letter_to R F scene name.to ≡ s.protocol.content name s.absorbed
+    unfolding scene
+    numbers-content =
+        ap (λ p. letter_bytes (send_kind job k) (row_words job stands.files k coming-now.0 p name.to)
+        (place_bytes R F (rank_entries R F job stands.files p (arrivals R F job stands.files p s.absorbed) k coming-now.0) (sent_places job stands.files k coming-now.0 p name.to))) (sym stands.worker_of.rank)
+        ∙ sym (numbers_are_packed R F job stands.files stands.view s name k coming-now.0 stands.book.stage send (sent-of-any job name.phase k coming-now.0 coming-now.1.0))

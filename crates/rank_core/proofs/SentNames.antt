@@ -1,12 +1,9 @@
--- Which letters a rank posts and awaits in a phase that sends the rows of a value that is made of another one's cells.
+-- Which letters a rank posts and awaits in a phase that sends numbers.
 use Rattle.std.proofs.Common.{◌≡◌, ℕ, zero, suc, ◌+◌, ◌<◌, ◌≤◌, Bool, true, false, cond, nat_lt, List, [], ◌∷◌, map, length, Some, refl, sym, ap, ◌∙◌, subst, arith}
 use Rattle.std.specs.Prelude.{All, slice_get}
 use Rattle.std.specs.List.{filter, range_with_len}
 use Rattle.std.proofs.lemmas.Bool.{lt-ltb, ltb-true}
-use Rattle.std.proofs.lemmas.List.{length-map}
 use Rattle.std.proofs.lemmas.Option.{get_or_from_slice_get, slice_get_within}
-use Rattle.map_core.specs.Classes.{index_at}
-use Rattle.map_core.specs.Plans.{PlanLists, export_list, remote_list}
 use Rattle.mm_text.specs.Reading.{File}
 use Rattle.outside.specs.declared.name.Name.{Name}
 use Rattle.rank_phases.specs.Pairs.{from_others, others, to_others}
@@ -16,18 +13,12 @@ use Rattle.job_phases.proofs.JobNames.{others-awaited, others-posted}
 use Rattle.model_defs.specs.declared.job.Job.{Job}
 use Rattle.model_defs.specs.declared.phase.About.{About}
 use Rattle.model_defs.specs.declared.phase.About.TheVariants.{SendNumbers}
-use Rattle.model_defs.specs.declared.phase.Phase.{Phase}
 use Rattle.model_defs.specs.Letters.{is_posted, letter_entries, letter_names}
 use Rattle.model_defs.specs.Machine.{no_phase}
-use Rattle.model_defs.specs.Makers.{maker_of}
-use Rattle.model_defs.specs.Maps.{list_of}
 use Rattle.model_defs.specs.Phases.{phases}
 use Rattle.model_defs.specs.Plans.{sent_rows}
-use Rattle.model_defs.specs.Shapes.{shape}
 use Rattle.model_defs.specs.Stages.{transfer_at}
-use Rattle.plan_phases.specs.BookStages.{IsMadePlan}
-use Rattle.vector_jobs.specs.VectorPhases.{IsCopy, copy_transfer}
-use Rattle.rank_core.proofs.CopyRows.{copy-serves}
+use Rattle.rank_core.specs.Makings.{IsSending}
 
 -- ---- lists
 
@@ -100,61 +91,42 @@ posted-where : (job : Job) (files : List File) (t : ℕ) (xs : List ℕ) → is_
 posted-where job files t [] = refl
 posted-where job files t (x ∷ xs) = sym (lt-ltb 0 (suc (length xs)) (omega arith))
 
-module _ (job : Job) (files : List File) (me n : ℕ) (phase : Phase) (at : slice_get (phases job) n ≡ Some phase) (about : phase.about ≡ SendNumbers 0)
-    (k : ℕ) (value : phase.value ≡ k) (copy : IsCopy job k) (plan : PlanLists) (made : IsMadePlan job files me (copy_transfer job k copy.source (maker_of job k)).plan plan) (within : me < job.ranks) where
-  phase-is : phase_at job n ≡ phase
-  phase-is = get_or_from_slice_get (phases job) n phase no_phase at
+module _ (job : Job) (files : List File) (me n k stage : ℕ) (sends : IsSending job n k stage) (within : me < job.ranks) where
+  phase-is : phase_at job n ≡ sends.phase
+  phase-is = get_or_from_slice_get (phases job) n sends.phase no_phase sends.at
 
   short : n < length (phases job)
-  short = slice_get_within (phases job) n phase at
+  short = slice_get_within (phases job) n sends.phase sends.at
 
-  sent-is : (m : Name) → is_sent job files (phase_at job n) m ≡ nat_lt 0 (length (sent_rows job files (transfer_at job k 0) m.from m.to))
+  pub sent-is : (m : Name) → is_sent job files (phase_at job n) m ≡ nat_lt 0 (length (sent_rows job files (transfer_at job k stage) m.from m.to))
   sent-is m =
       (λ t. is_sent job files (phase-is t) m)
-      ∙ (λ t. is_posted job files (about t) (entries_of (about t)))
-      ∙ posted-where job files 0 (sent_rows job files (transfer_at job phase.value 0) m.from m.to)
-      ∙ ap (λ v. nat_lt 0 (length (sent_rows job files (transfer_at job v 0) m.from m.to))) value
+      ∙ (λ t. is_posted job files (sends.about t) (entries_of (sends.about t)))
+      ∙ posted-where job files stage (sent_rows job files (transfer_at job sends.phase.value stage) m.from m.to)
+      ∙ ap (λ v. nat_lt 0 (length (sent_rows job files (transfer_at job v stage) m.from m.to))) sends.value
     where
       entries_of : About → List ℕ
-      entries_of a = letter_entries job files (record phase { about = a }) m
-
-  exports-many : (q : ℕ) → q < job.ranks → length (export_list plan q) ≡ length (sent_rows job files (transfer_at job k 0) me q)
-  exports-many q l =
-      sym (length-map (export_list plan q) (index_at (list_of job (shape job copy.source).rows me)))
-      ∙ ap length ((copy-serves job k copy files me plan made).sent q l)
-
-  remotes-many : (q : ℕ) → q < job.ranks → length (remote_list plan q) ≡ length (sent_rows job files (transfer_at job k 0) q me)
-  remotes-many q l =
-      sym (length-map (remote_list plan q) (index_at (list_of job (shape job k).rows me)))
-      ∙ ap length ((copy-serves job k copy files me plan made).come q l)
+      entries_of a = letter_entries job files (record sends.phase { about = a }) m
 
   -- with a letter that is posted some row goes
-  pub row-goes : (m : Name) → m.from ≡ me → m.to < job.ranks → is_sent job files (phase_at job n) m ≡ true → 1 ≤ length (export_list plan m.to)
-  row-goes m from known sent =
-      let many : nat_lt 0 (length (export_list plan m.to)) ≡ true =
-      ap (nat_lt 0) (exports-many m.to known)
-      ∙ ap (λ p. nat_lt 0 (length (sent_rows job files (transfer_at job k 0) p m.to))) (sym from)
-      ∙ sym (sent-is m) ∙ sent in
-      let low = ltb-true 0 (length (export_list plan m.to)) many in
+  pub row-goes : (m : Name) → m.from ≡ me → is_sent job files (phase_at job n) m ≡ true → 1 ≤ length (sent_rows job files (transfer_at job k stage) me m.to)
+  row-goes m from sent =
+      let many : nat_lt 0 (length (sent_rows job files (transfer_at job k stage) me m.to)) ≡ true =
+      ap (λ p. nat_lt 0 (length (sent_rows job files (transfer_at job k stage) p m.to))) (sym from) ∙ sym (sent-is m) ∙ sent in
+      let low = ltb-true 0 (length (sent_rows job files (transfer_at job k stage) me m.to)) many in
       omega arith
 
-  pub copy-posts : names_from (letter_names job files) n me ≡ filter (λ m. nat_lt 0 (length (export_list plan m.to))) (to_others job.ranks n me)
-  copy-posts =
+  pub row-posts : names_from (letter_names job files) n me ≡ filter (λ m. nat_lt 0 (length (sent_rows job files (transfer_at job k stage) me m.to))) (to_others job.ranks n me)
+  row-posts =
       others-posted job files n me short within
-      ∙ filter-alike (IsFrom job.ranks n me) (is_sent job files (phase_at job n)) (λ m. nat_lt 0 (length (export_list plan m.to))) (to_others job.ranks n me) (from-each job.ranks n me)
-      (λ m is.
-      sent-is m
-      ∙ ap (λ p. nat_lt 0 (length (sent_rows job files (transfer_at job k 0) p m.to))) is.sender
-      ∙ ap (nat_lt 0) (sym (exports-many m.to is.known)))
+      ∙ filter-alike (IsFrom job.ranks n me) (is_sent job files (phase_at job n)) (λ m. nat_lt 0 (length (sent_rows job files (transfer_at job k stage) me m.to))) (to_others job.ranks n me) (from-each job.ranks n me)
+      (λ m is. sent-is m ∙ ap (λ p. nat_lt 0 (length (sent_rows job files (transfer_at job k stage) p m.to))) is.sender)
 
-  pub copy-awaits : names_to (letter_names job files) n me ≡ filter (λ m. nat_lt 0 (length (remote_list plan m.from))) (from_others job.ranks n me)
-  copy-awaits =
+  pub row-awaits : names_to (letter_names job files) n me ≡ filter (λ m. nat_lt 0 (length (sent_rows job files (transfer_at job k stage) m.from me))) (from_others job.ranks n me)
+  row-awaits =
       others-awaited job files n me short within
-      ∙ filter-alike (IsTo job.ranks n me) (is_sent job files (phase_at job n)) (λ m. nat_lt 0 (length (remote_list plan m.from))) (from_others job.ranks n me) (to-each job.ranks n me)
-      (λ m is.
-      sent-is m
-      ∙ ap (λ p. nat_lt 0 (length (sent_rows job files (transfer_at job k 0) m.from p))) is.receiver
-      ∙ ap (nat_lt 0) (sym (remotes-many m.from is.known)))
+      ∙ filter-alike (IsTo job.ranks n me) (is_sent job files (phase_at job n)) (λ m. nat_lt 0 (length (sent_rows job files (transfer_at job k stage) m.from me))) (from_others job.ranks n me) (to-each job.ranks n me)
+      (λ m is. sent-is m ∙ ap (λ p. nat_lt 0 (length (sent_rows job files (transfer_at job k stage) m.from p))) is.receiver)
 
 -- ---- what is asked of such names
 

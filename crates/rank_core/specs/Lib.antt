@@ -1,9 +1,7 @@
-pub mod Inputs
 pub mod Results
 pub mod Counts
-pub mod Steps
 pub mod Pieces
-pub mod Gatherings
-pub mod Begun
+pub mod Makings
+pub mod Leaving
 pub mod Workers
 pub mod Ranks

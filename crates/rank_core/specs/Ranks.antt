@@ -10,7 +10,7 @@ use Rattle.rank_phases.specs.Phases.{names_to}
 use Rattle.rank_phases.specs.PhasedPeers.{IsPeer}
 use Rattle.rank_core.specs.declared.rank.Rank.{Rank}
 use Rattle.rank_core.specs.Workers.{IsJobWorker}
-pub use Rattle.rank_core.specs.Inputs.{IsRankInput}
+pub use Rattle.rank_pieces.specs.Inputs.{IsRankInput}
 pub use Rattle.rank_core.specs.Results.{HasEntries, IsEntriesGiven, IsFinished, is_over_there, letter_given, result_table}
 
 -- The rank stands there, by the protocol of its job.

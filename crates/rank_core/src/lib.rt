@@ -5,11 +5,11 @@
 //! its results, are what the protocol of the job (`model_defs`) says of the letters given to it. `specs/Ranks` says what
 //! contracts see of a rank.
 //!
-//! By now a rank carries out jobs of vectors: vectors and parts, `move`, `import`, `spread`, `export`, `update`, `scale` and
-//! `print`. A value that is made of another one's cells on another map is made in phases: maps are registered, owners are asked
-//! for and told, each rank says what it lacks or what it has for others, and its numbers come (`Tpetra::Import`,
-//! `Tpetra::Export`). They are combined in the order in which the letters come. All other values are made without letters, as
-//! soon as those before them are there.
+//! By now a rank carries out all statements but `transpose`, `multiply`, `add` and `assemble`. A value whose numbers come from other
+//! ranks is made in phases: maps are registered, owners are asked for and told, each rank says what it lacks or what it has for
+//! others, and its numbers come (`Tpetra::Import`, `Tpetra::Export`). They are combined in the order in which the letters come. Of a
+//! matrix with places of its own the plans of its structure are made then (`Tpetra::CrsMatrix::fillComplete`). All other values are made
+//! without letters, as soon as those before them are there.
 //!
 //! ```text
 //! let share = share_of(alloc, &job, &files, me)?;
@@ -21,21 +21,18 @@
 //! ```
 //!
 //! It stands on `rank_phases`, whose frame it fills with a worker: on `plan_phases` for the phases that make plans, on
-//! `rank_transfers` for those that send numbers, on `rank_share` and on `rank_values`. The run of all ranks stands on it.
+//! `rank_makings` for those that send numbers, and on `rank_pieces`. The run of all ranks stands on it.
 #![tactic(auto)]
 
-mod beginning;
-mod combining;
-mod copying;
 mod counts;
-mod gathering;
-mod making;
+mod lists;
+mod makings;
 mod names;
+mod next;
 mod rank;
-mod steps;
 mod worker;
 
 pub use counts::EntryCounts;
-pub use gathering::Gathering;
+pub use makings::Making;
 pub use rank::Rank;
 pub use worker::JobWorker;

@@ -12,8 +12,8 @@ use model_defs::Job;
 use outside::Name;
 use peers::Peer;
 use rank_phases::Phased;
+use rank_pieces::{is_piece_over, piece_cells};
 use rank_share::Share;
-use rank_values::{global_cells, is_vector_over};
 use scalar_laws::Scalar;
 use std::alloc::{AllocError, Global};
 use std::rc::Rc;
@@ -28,8 +28,8 @@ pub struct Rank<S> {
 
 impl<S: Scalar + Drop> Rank<S> {
     /// The rank `me` of a valid job, counted from 0, which was given nothing yet. `share` is its share of files that fit the
-    /// job, as `share_of` gives it. By now the job is one of vectors: it has no matrix, and its statements are `move`, `import`,
-    /// `spread`, `export`, `update`, `scale` and `print`. `Err` means that memory ran out.
+    /// job, as `share_of` gives it. By now its statements are not `transpose`, `multiply`, `add` or `assemble`. `Err` means that memory
+    /// ran out.
     pub fn start(alloc: Global, me: u32, job: &Rc<Job>, share: Share) -> Result<Rank<S>, AllocError>
         requires input { (files : List File) × IsRankInput S.conversions job.now.value files me share }
         ensures fresh { IfOk result (λ rank. (files : List File) → IsRankInput S.conversions job.now.value files me share
@@ -52,7 +52,7 @@ impl<S: Scalar + Drop> Rank<S> {
             → found cells.items ≡ result_table S.conversions s value) }
     {
         match self.phased.worker().values().get(value as usize) {
-            Some(vector) => global_cells(self.alloc, vector),
+            Some(piece) => piece_cells(self.alloc, piece),
             None => Ok(Vec::new(self.alloc)),
         }
     }
@@ -66,8 +66,8 @@ impl<S: Scalar + Drop> Rank<S> {
         ensures some { result ≡ true → (s : PeerState) → IsRank S.semiring S.conversions self.now s → IsFinished s
             → (v : ℕ) × ((i : ℕ) × ((j : ℕ) × (is_over_there S.conversions (result_table S.conversions s v i j) ≡ true))) }
     {
-        for vector in self.phased.worker().values() {
-            if is_vector_over(vector) {
+        for piece in self.phased.worker().values() {
+            if is_piece_over(piece) {
                 return true;
             }
         }

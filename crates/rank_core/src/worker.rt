@@ -11,21 +11,26 @@ ghost use Rattle.rank_phases.specs.Phases.{names_from, names_to};
 ghost use Rattle.rank_phases.specs.Stages.{Stage, CanAbsorb, CanEnter, CanSend, absorbing, beginning, entering};
 ghost use Rattle.rank_stages.specs.JobStages.{about_at};
 ghost use Rattle.rank_stages.specs.LetterLaws.{sends_numbers};
-ghost use Rattle.rank_core.specs.Inputs.{IsRankInput};
+ghost use Rattle.rank_pieces.specs.Inputs.{IsRankInput};
+ghost use Rattle.rank_pieces.specs.Pieces.{AreOwnPieces};
+ghost use Rattle.rank_core.specs.Leaving.{IsLeft};
+ghost use Rattle.rank_core.specs.Makings.{IsSending};
+ghost use Rattle.rank_core.specs.declared.makings.Making.TheVariants.{Arriving};
 
-use crate::Gathering;
-use crate::beginning::begin_gathering;
 use crate::counts::EntryCounts;
-use crate::gathering::arrived_vector;
-use crate::making::make_values;
+use crate::lists::plan_list;
+use crate::makings::Making;
 use crate::names::row_letters;
+use crate::next::{arrived_of, finished_value, next_making, put_piece};
 use byte_pool::{Lease, Pool};
 use model_defs::{About, Job, Phase, Shape, shapes};
 use multivector::MultiVector;
 use outside::Name;
 use phase_list::phases;
 use plan_phases::{absorb_words, enter_phase, finish_phase, phase_words};
+use rank_makings::{Coming, begin_coming};
 use rank_phases::{Entered, Worker, names_from_others, names_to_others};
+use rank_pieces::{Piece, add_pieces};
 use rank_plans::PlanBook;
 use rank_share::Share;
 use scalar_laws::Scalar;
@@ -34,7 +39,7 @@ use std::rc::Rc;
 use word_letters::{entries_of_letter, lease_words, words_of_letter};
 
 /// The worker of a rank of a job: the job, the rank's share of the files, its pieces of the values that were made, its maps and
-/// plans, and in a phase that sends numbers the value to which they come.
+/// plans, and what it has of the value for which its phase is.
 #[derive(Drop)]
 pub struct JobWorker<S> {
     alloc: Global,
@@ -44,10 +49,18 @@ pub struct JobWorker<S> {
     shapes: Vec<Shape>,
     phases: Vec<Phase>,
     phase_count: u32,
-    values: Vec<MultiVector<S>>,
+    values: Vec<Piece<S>>,
     book: PlanBook,
-    gathering: Option<Gathering<S>>,
+    making: Option<Making<S>>,
     counts: EntryCounts,
+}
+
+/// Whether numbers come.
+fn is_arriving<S: Scalar>(making: &Option<Making<S>>) -> bool
+    ensures yes { result ≡ true → (c : Coming S) × (making.now ≡ Some (Arriving c)) }
+    ensures no { result ≡ false → (c : Coming S) → making.now ≡ Some (Arriving c) → ⊥ }
+{
+    matches!(making, Some(Making::Arriving(_)))
 }
 
 impl<S: Scalar> JobWorker<S> {
@@ -79,13 +92,13 @@ impl<S: Scalar> JobWorker<S> {
             phases,
             values: Vec::new(alloc),
             book,
-            gathering: None,
+            making: None,
             counts: EntryCounts::new(alloc),
         })
     }
 
     /// The pieces of the values that were made, by the number of the value.
-    pub(crate) fn values(&self) -> &[MultiVector<S>]
+    pub(crate) fn values(&self) -> &[Piece<S>]
         ensures values { result.now ≡ self.now.values.items }
     {
         &self.values
@@ -132,17 +145,65 @@ impl<S: Scalar> JobWorker<S> {
         }
     }
 
-    /// Makes the values before that of this phase; at the end all.
+    /// Makes the values before that of this phase, at the end all, and what the phase needs of its own one.
     fn make(&mut self, phase: u32) -> Result<(), AllocError>
         requires { (s : Stage) × (IsLeaving S.semiring S.conversions self.old s × CanEnter s phase) }
         ensures { OnOk result ((s : Stage) → IsLeaving S.semiring S.conversions self.old s → CanEnter s phase → IsReady S.semiring S.conversions self.new s) }
     {
         let count = self.count_before(phase);
-        let arrived = arrived_vector(self.gathering.take());
-        make_values(
+        let left = self.leave(phase, count)?;
+        let next = next_making(self.alloc, &self.job, self.me, &self.share, count, left)?;
+        self.put_making(next);
+        Ok(())
+    }
+
+    /// What is made from now on.
+    fn put_making(&mut self, making: Option<Making<S>>)
+        ensures put { self.new ≡ record self.old { making = making } }
+    {
+        self.making = making;
+    }
+
+    /// Makes the values before this number of them; where all are there, takes what is in the making of the next one.
+    fn leave(&mut self, phase: u32, count: usize) -> Result<Option<Making<S>>, AllocError>
+        requires leaving { (s : Stage) × (IsLeaving S.semiring S.conversions self.old s × CanEnter s phase) }
+        requires count { count ≡ count_before self.old.job.value (slice_get self.old.phases.items phase) }
+        ensures pieces { OnOk result ((s : Stage) (l : IsLeaving S.semiring S.conversions self.old s) → CanEnter s phase
+            → AreOwnPieces S.semiring S.conversions self.old.job.value l.stands_so.files self.old.me s.absorbed count self.new.values.items) }
+        ensures left { IfOk result (λ m. IsLeft self.old.values.items self.new.values.items count self.old.making m) }
+        ensures stays { OnOk result (self.new ≡ record self.old { values = self.new.values; making = None }) }
+    {
+        if self.values.len() < count {
+            self.finish_value(phase, count)?;
+            return Ok(None);
+        }
+        Ok(self.making.take())
+    }
+
+    /// Makes the value that is left, and those behind it up to so many, which are made without letters.
+    fn finish_value(&mut self, phase: u32, count: usize) -> Result<(), AllocError>
+        requires leaving { (s : Stage) × (IsLeaving S.semiring S.conversions self.old s × CanEnter s phase) }
+        requires count { count ≡ count_before self.old.job.value (slice_get self.old.phases.items phase) }
+        requires more { length self.old.values.items < count }
+        ensures pieces { OnOk result ((s : Stage) (l : IsLeaving S.semiring S.conversions self.old s) → CanEnter s phase
+            → AreOwnPieces S.semiring S.conversions self.old.job.value l.stands_so.files self.old.me s.absorbed count self.new.values.items) }
+        ensures making { self.new.making ≡ None }
+        ensures stays { OnOk result (self.new ≡ record self.old { values = self.new.values; making = None }) }
+    {
+        let made = finished_value(
+            self.alloc,
+            &self.job,
+            self.me,
+            &self.shapes,
+            &self.book,
+            &self.values,
+            self.values.len(),
+            self.making.take(),
+        )?;
+        put_piece(&mut self.values, made)?;
+        add_pieces(
             self.alloc,
             &mut self.values,
-            arrived,
             &self.job,
             self.me,
             &self.share,
@@ -159,7 +220,22 @@ impl<S: Scalar> JobWorker<S> {
         ensures awaits { IfOk result (λ e. (s : Stage) → IsReady S.semiring S.conversions self.old s → CanEnter s phase → e.awaits.items ≡ names_to s.protocol.names phase s.rank) }
         ensures enters { OnOk result ((s : Stage) → IsReady S.semiring S.conversions self.old s → CanEnter s phase → IsJobWorker S.semiring S.conversions self.new (entering s)) }
     {
-        enter_phase::<S>(self.alloc, &mut self.book, &self.job, about)?;
+        let list = plan_list(
+            self.alloc,
+            &self.job,
+            self.me,
+            &self.share,
+            about,
+            &self.making,
+        )?;
+        enter_phase::<S>(
+            self.alloc,
+            &mut self.book,
+            &self.job,
+            &self.shapes,
+            about,
+            &list,
+        )?;
         let ranks = self.job.ranks;
         Ok(Entered {
             posts: names_to_others(self.alloc, ranks, phase, self.me)?,
@@ -167,26 +243,30 @@ impl<S: Scalar> JobWorker<S> {
         })
     }
 
-    /// Enters a phase that sends the numbers of value k.
-    fn enter_numbers(&mut self, phase: u32, k: usize) -> Result<Entered, AllocError>
+    /// Enters a phase that sends the numbers of value k at a stage.
+    fn enter_numbers(&mut self, phase: u32, k: usize, stage: usize) -> Result<Entered, AllocError>
         requires ready { (s : Stage) × (IsReady S.semiring S.conversions self.old s × CanEnter s phase) }
-        requires next { (next : Phase) × ((slice_get (phases self.old.job.value) phase ≡ Some next) × ((next.value ≡ k) × (sends_numbers next.about ≡ true))) }
+        requires next { IsSending self.old.job.value phase k stage }
         ensures posts { IfOk result (λ e. (s : Stage) → IsReady S.semiring S.conversions self.old s → CanEnter s phase → e.posts.items ≡ names_from s.protocol.names phase s.rank) }
         ensures awaits { IfOk result (λ e. (s : Stage) → IsReady S.semiring S.conversions self.old s → CanEnter s phase → e.awaits.items ≡ names_to s.protocol.names phase s.rank) }
         ensures enters { OnOk result ((s : Stage) → IsReady S.semiring S.conversions self.old s → CanEnter s phase → IsJobWorker S.semiring S.conversions self.new (entering s)) }
     {
-        let gathering = begin_gathering(
+        let came = arrived_of(self.making.take());
+        let coming = begin_coming(
             self.alloc,
             &self.job,
             self.me,
+            &self.share,
             &self.shapes,
             &self.book,
             &self.values,
+            came,
             k,
+            stage,
         )?;
         let ranks = self.job.ranks;
-        let entered = row_letters(self.alloc, ranks, phase, self.me, &gathering.arriving)?;
-        self.gathering = Some(gathering);
+        let entered = row_letters(self.alloc, ranks, phase, self.me, &coming)?;
+        self.making = Some(Making::Arriving(coming));
         Ok(entered)
     }
 
@@ -204,7 +284,7 @@ impl<S: Scalar> JobWorker<S> {
                 awaits: Vec::new(self.alloc),
             }),
             Some(next) => match next.about {
-                About::SendNumbers { .. } => self.enter_numbers(phase, next.value),
+                About::SendNumbers { stage } => self.enter_numbers(phase, next.value, stage),
                 about => self.enter_plan(phase, about),
             },
         }
@@ -213,39 +293,45 @@ impl<S: Scalar> JobWorker<S> {
     /// Packs the letter of words.
     fn pack_words(&self, name: Name, pool: &mut Pool) -> Result<Lease, AllocError>
         requires sends { (s : Stage) × (IsJobWorker S.semiring S.conversions self.now s × CanSend s name) }
-        requires none { self.now.gathering ≡ None }
+        requires none { (c : Coming S) → self.now.making ≡ Some (Arriving c) → ⊥ }
         ensures fresh { IfOk result (λ lease. leases pool.old lease ≡ None) }
         ensures ok { IfOk result (λ lease. (s : Stage) → IsJobWorker S.semiring S.conversions self.now s → CanSend s name
             → leases pool.new ≡ with_lease (leases pool.old) lease (s.protocol.content name s.absorbed)) }
         ensures err { OnErr result (leases pool.new ≡ leases pool.old) }
     {
         let phase = self.phases[name.phase as usize];
-        let words = phase_words::<S>(self.alloc, &self.book, &self.job, phase.about, name.to)?;
+        let words = phase_words::<S>(
+            self.alloc,
+            &self.book,
+            &self.job,
+            &self.shapes,
+            phase.about,
+            name.to,
+        )?;
         lease_words(phase.kind, &words, pool)
     }
 
-    /// Packs the letter of the rows that are sent.
-    fn pack_rows(
+    /// Packs the letter of the numbers that are sent.
+    fn pack_numbers(
         &self,
-        gathering: &Gathering<S>,
+        coming: &Coming<S>,
         name: Name,
         pool: &mut Pool,
     ) -> Result<Lease, AllocError>
         requires sends { (s : Stage) × (IsJobWorker S.semiring S.conversions self.now s × CanSend s name) }
-        requires some { self.now.gathering ≡ Some gathering.now }
+        requires some { self.now.making ≡ Some (Arriving coming.now) }
         ensures fresh { IfOk result (λ lease. leases pool.old lease ≡ None) }
         ensures ok { IfOk result (λ lease. (s : Stage) → IsJobWorker S.semiring S.conversions self.now s → CanSend s name
             → leases pool.new ≡ with_lease (leases pool.old) lease (s.protocol.content name s.absorbed)) }
         ensures err { OnErr result (leases pool.new ≡ leases pool.old) }
     {
-        let source = &self.values[gathering.source];
-        gathering.arriving.pack(source, name.to, pool)
+        coming.pack(&self.values, name.to, pool)
     }
 
     /// Absorbs a letter of words.
     fn absorb_words(&mut self, name: Name, bytes: &[u8]) -> Result<(), AllocError>
         requires absorbs { (s : Stage) × (IsJobWorker S.semiring S.conversions self.old s × CanAbsorb s name bytes.now) }
-        requires none { self.old.gathering ≡ None }
+        requires none { (c : Coming S) → self.old.making ≡ Some (Arriving c) → ⊥ }
         ensures { OnOk result ((s : Stage) → IsJobWorker S.semiring S.conversions self.old s → CanAbsorb s name bytes.now
             → IsJobWorker S.semiring S.conversions self.new (absorbing s ((name, bytes.now) ∷ []))) }
     {
@@ -255,18 +341,20 @@ impl<S: Scalar> JobWorker<S> {
         self.counts.put(name, entries_of_letter(bytes))
     }
 
-    /// Absorbs a letter of rows.
-    fn absorb_rows(&mut self, name: Name, bytes: &[u8]) -> Result<(), AllocError>
-        requires absorbs { (s : Stage) × (IsJobWorker S.semiring S.conversions self.old s × CanAbsorb s name bytes.now) }
-        requires some { is_some self.old.gathering ≡ true }
-        ensures { OnOk result ((s : Stage) → IsJobWorker S.semiring S.conversions self.old s → CanAbsorb s name bytes.now
+    /// Absorbs a letter of numbers.
+    fn absorb_numbers(
+        &mut self,
+        coming: Coming<S>,
+        name: Name,
+        bytes: &[u8],
+    ) -> Result<(), AllocError>
+        requires absorbs { (s : Stage) × (IsJobWorker S.semiring S.conversions (record self.old { making = Some (Arriving coming) }) s × CanAbsorb s name bytes.now) }
+        ensures { OnOk result ((s : Stage) → IsJobWorker S.semiring S.conversions (record self.old { making = Some (Arriving coming) }) s → CanAbsorb s name bytes.now
             → IsJobWorker S.semiring S.conversions self.new (absorbing s ((name, bytes.now) ∷ []))) }
     {
-        let Some(mut coming) = self.gathering.take() else {
-            unreachable!();
-        };
-        coming.arriving.absorb(name.from, bytes)?;
-        self.gathering = Some(coming);
+        let mut coming = coming;
+        coming.absorb(name.from, bytes)?;
+        self.making = Some(Making::Arriving(coming));
         self.counts.put(name, entries_of_letter(bytes))
     }
 }
@@ -287,17 +375,19 @@ impl<S: Scalar> Worker for JobWorker<S> {
     }
 
     fn pack(&self, name: Name, pool: &mut Pool) -> Result<Lease, AllocError> {
-        match &self.gathering {
-            Some(gathering) => self.pack_rows(gathering, name, pool),
-            None => self.pack_words(name, pool),
+        match &self.making {
+            Some(Making::Arriving(coming)) => self.pack_numbers(coming, name, pool),
+            _ => self.pack_words(name, pool),
         }
     }
 
     fn absorb(&mut self, name: Name, bytes: &[u8]) -> Result<(), AllocError> {
-        if self.gathering.is_some() {
-            self.absorb_rows(name, bytes)
-        } else {
-            self.absorb_words(name, bytes)
+        if !is_arriving(&self.making) {
+            return self.absorb_words(name, bytes);
+        }
+        match self.making.take() {
+            Some(Making::Arriving(coming)) => self.absorb_numbers(coming, name, bytes),
+            _ => unreachable!(),
         }
     }
 }

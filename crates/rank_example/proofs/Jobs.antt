@@ -18,18 +18,18 @@ use Rattle.model_defs.proofs.ValidExamples.{valid as valid-example}
 use Rattle.rank_core.specs.Ranks.{IsRankInput}
 use Rattle.rank_share.specs.declared.share.Share.{Share}
 use Rattle.rank_share.specs.Shares.{share as share_of}
-use Rattle.vector_jobs.specs.VectorJobs.{IsVectorJob, IsVectorStep}
+use Rattle.value_phases.specs.BuiltJobs.{IsBuiltJob, IsBuiltStep}
 use Rattle.rank_example.specs.SmallJob.{small_files, small_job}
 
 pub valid : IsValid small_job
 unfolding small_job
 valid = valid-example
 
-pub vectors : IsVectorJob small_job
+pub built : IsBuiltJob small_job
 unfolding small_job
-vectors = record { matrices = refl; steps = steps }
+built = steps
   where
-    steps : (k : ℕ) (d : Step) → k < 2 → IsVectorStep (get_or small_job.steps k d)
+    steps : (k : ℕ) (d : Step) → k < 2 → IsBuiltStep (get_or small_job.steps k d)
     steps zero d l = tt
     steps (suc zero) d l = tt
     steps (suc (suc k)) d l = absurd (omega arith)
@@ -96,7 +96,7 @@ some-rank = omega arith
 pub input : (share : Share) → share ≡ share_of small_job small_files 0 → IsRankInput weighed_conversions small_job small_files 0 share
 input share given = record {
   valid = valid;
-  vectors = vectors;
+  built = built;
   fitting = fitting;
   numbers = numbers;
   rank = some-rank;

@@ -44,40 +44,62 @@ fn expect_moved(rt: &impl Abort, rank: &Rank<Weighed>, number: i128) -> Result<(
     Ok(())
 }
 
+/// It asks, is given what was asked of it and what it asked for, and sends its number.
+fn asks_then_sends_and_receives(
+    rt: &impl Abort,
+    alloc: Global,
+    rank: &mut Rank<Weighed>,
+) -> Result<(), AllocError>
+    requires so_far { IsPlayed (IsRank weighed_semiring weighed_conversions) rank.old started }
+{
+    asks(rt, alloc, rank)?;
+    sends_on_want(rt, alloc, rank)?;
+    assert!(rt; on_data(rank, 55)?);
+    posts_nothing(rt, alloc, rank)?;
+    expect_moved(rt, rank, 55)
+}
+
+/// The letter of its last phase comes first.
+fn is_told_early(rt: &impl Abort, alloc: Global, rank: &mut Rank<Weighed>) -> Result<(), AllocError>
+    requires so_far { IsPlayed (IsRank weighed_semiring weighed_conversions) rank.old started }
+{
+    assert!(rt; on_data(rank, 55)?);
+    asks(rt, alloc, rank)?;
+    assert!(rt; !rank.is_done());
+    sends_on_want(rt, alloc, rank)?;
+    expect_moved(rt, rank, 55)
+}
+
+/// Both letters come twice.
+fn is_told_again(rt: &impl Abort, alloc: Global, rank: &mut Rank<Weighed>) -> Result<(), AllocError>
+    requires so_far { IsPlayed (IsRank weighed_semiring weighed_conversions) rank.old started }
+{
+    assert!(rt; on_want(rank)?);
+    assert!(rt; !on_want_again(rank)?);
+    posts_both(rt, alloc, rank)?;
+    assert!(rt; on_data(rank, 55)?);
+    assert!(rt; !on_data_again(rank, 77)?);
+    posts_nothing(rt, alloc, rank)?;
+    expect_moved(rt, rank, 55)
+}
+
 #[test]
 fn a_rank_asks_then_sends_and_receives(rt: HostRuntime) -> Result<(), Fail> {
-    let alloc = rt.alloc();
-    let mut rank = new_rank(alloc)?;
-    asks(&rt, alloc, &mut rank)?;
-    sends_on_want(&rt, alloc, &mut rank)?;
-    assert!(rt; on_data(&mut rank, 55)?);
-    posts_nothing(&rt, alloc, &mut rank)?;
-    expect_moved(&rt, &rank, 55)?;
+    let mut rank = new_rank(rt.alloc())?;
+    asks_then_sends_and_receives(&rt, rt.alloc(), &mut rank)?;
     Ok(())
 }
 
 #[test]
 fn a_letter_may_come_before_its_phase(rt: HostRuntime) -> Result<(), Fail> {
-    let alloc = rt.alloc();
-    let mut rank = new_rank(alloc)?;
-    assert!(rt; on_data(&mut rank, 55)?);
-    asks(&rt, alloc, &mut rank)?;
-    assert!(rt; !rank.is_done());
-    sends_on_want(&rt, alloc, &mut rank)?;
-    expect_moved(&rt, &rank, 55)?;
+    let mut rank = new_rank(rt.alloc())?;
+    is_told_early(&rt, rt.alloc(), &mut rank)?;
     Ok(())
 }
 
 #[test]
 fn a_letter_that_is_given_again_changes_nothing(rt: HostRuntime) -> Result<(), Fail> {
-    let alloc = rt.alloc();
-    let mut rank = new_rank(alloc)?;
-    assert!(rt; on_want(&mut rank)?);
-    assert!(rt; !on_want_again(&mut rank)?);
-    posts_both(&rt, alloc, &mut rank)?;
-    assert!(rt; on_data(&mut rank, 55)?);
-    assert!(rt; !on_data_again(&mut rank, 77)?);
-    posts_nothing(&rt, alloc, &mut rank)?;
-    expect_moved(&rt, &rank, 55)?;
+    let mut rank = new_rank(rt.alloc())?;
+    is_told_again(&rt, rt.alloc(), &mut rank)?;
     Ok(())
 }

@@ -17,8 +17,8 @@ use scalar_laws::Scalar;
 use std::alloc::{AllocError, Global};
 use std::rc::Rc;
 
-/// The rows that lines name, ascending, each once. `Err` means that memory ran out.
-fn rows_of_lines(alloc: Global, lines: &[Line]) -> Result<Vec<Gid>, AllocError>
+/// The rows that lines name, as global indices, ascending, each once. `Err` means that memory ran out.
+pub fn rows_of_lines(alloc: Global, lines: &[Line]) -> Result<Vec<Gid>, AllocError>
     ensures rows { IfOk result (λ rows. rows.items ≡ named_rows lines.now) }
 {
     let mut rows = Vec::with_capacity(alloc, lines.len())?;

@@ -28,6 +28,6 @@ mod tests;
 
 pub use applies::{applied, sums_of_apply};
 pub use cells::matrix_cells;
-pub use fills::fill_of_lines;
+pub use fills::{fill_of_lines, rows_of_lines};
 pub use overs::is_matrix_over;
 pub use scaled::scaled_matrix;

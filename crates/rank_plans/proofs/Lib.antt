@@ -1,6 +1,7 @@
 mod Known
 mod Found
 mod Fresh
+mod LookedUp
 mod Targets
 mod Wants
 mod Imported

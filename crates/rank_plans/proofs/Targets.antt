@@ -12,12 +12,12 @@ use Rattle.map_core.specs.Classes.{owns, index_at, indices_at, is_lacked, lacked
 use Rattle.map_core.proofs.Classes.{filter-push, stands-index_at}
 use Rattle.map_core.proofs.Members.{stands-filter}
 use Rattle.model_defs.proofs.Filters.{filter-filter, filter-ext}
-use Rattle.rank_plans.specs.Answers.{first_owner, known_at, lacked_in, rest_owners, target_owners, AreRanks}
+use Rattle.rank_plans.specs.Answers.{first_owner, known_at, lacked_in, owner_if_known, rest_owners, target_owners, AreRanks}
 use Rattle.rank_plans.proofs.Known.{apart, map-within, AreRanks-known}
 
 -- the owner of an index of the target: rank me where the source has it, or else the one that is known
 abbrev pub owner_by : (me : ℕ) → (source xs : List ℕ) → List (Option ℕ) → ℕ → Option ℕ
-owner_by me source xs owners g = cond (stands g source) (Some me) (known_at xs owners g)
+owner_by me source xs owners = owner_if_known me source (known_at xs owners)
 
 pub target-map : (me : ℕ) (source target : List ℕ) (ks : List (Option ℕ)) → AreDistinct target → length ks ≡ length (lacked_in source target)
     → target_owners me source target ks ≡ map (owner_by me source (lacked_in source target) ks) target
@@ -69,55 +69,64 @@ pub owner-at : (f : ℕ → Option ℕ) (xs : List ℕ) (l : ℕ) → l < length
 owner-at f xs l low = get_or-map f xs l 0 None low
 
 -- what an import wants of rank q is what is lacked and known to be of q
-pub lacked-owned : (me : ℕ) (source target : List ℕ) (ks : List (Option ℕ)) (q : ℕ)
-    → lacked source target (map (owner_by me source (lacked_in source target) ks) target) q ≡ filter (λ g. owns (known_at (lacked_in source target) ks g) q) (lacked_in source target)
-lacked-owned me source target ks q =
-    picked (is_lacked source target (map (owner_by me source (lacked_in source target) ks) target) q)
-    (λ g. not (stands g source) && owns (owner_by me source (lacked_in source target) ks g) q) target
-    (λ l low. ap (λ o. not (stands (index_at target l) source) && owns o q) (owner-at (owner_by me source (lacked_in source target) ks) target l low))
-    ∙ filter-ext (λ g. not (stands g source) && owns (owner_by me source (lacked_in source target) ks g) q) (λ g. not (stands g source) && owns (known_at (lacked_in source target) ks g) q)
-    (λ g. either (stands g source) (known_at (lacked_in source target) ks g)) target
-    ∙ sym (filter-filter (λ g. owns (known_at (lacked_in source target) ks g) q) (λ g. not (stands g source)) target)
+pub lacked-known : (me : ℕ) (source target : List ℕ) (known : ℕ → Option ℕ) (q : ℕ)
+    → lacked source target (map (owner_if_known me source known) target) q ≡ filter (λ g. owns (known g) q) (lacked_in source target)
+lacked-known me source target known q =
+    picked (is_lacked source target (map (owner_if_known me source known) target) q)
+    (λ g. not (stands g source) && owns (owner_if_known me source known g) q) target
+    (λ l low. ap (λ o. not (stands (index_at target l) source) && owns o q) (owner-at (owner_if_known me source known) target l low))
+    ∙ filter-ext (λ g. not (stands g source) && owns (owner_if_known me source known g) q) (λ g. not (stands g source) && owns (known g) q)
+    (λ g. either (stands g source) (known g)) target
+    ∙ sym (filter-filter (λ g. owns (known g) q) (λ g. not (stands g source)) target)
   where
     either : (b : Bool) (o : Option ℕ) → not b && owns (cond b (Some me) o) q ≡ not b && owns o q
     either true o = refl
     either false o = refl
 
--- the conditions of an import
-pub target-owners : (me P : ℕ) (source target : List ℕ) (ks : List (Option ℕ)) → me < P → AreRanks P ks
-    → filter (λ g. owns (known_at (lacked_in source target) ks g) me) (lacked_in source target) ≡ []
-    → AreOwners me P source target (map (owner_by me source (lacked_in source target) ks) target)
-target-owners me P source target ks known below none =
-    record { each = length-map target (owner_by me source (lacked_in source target) ks); below = ranked; mine = λ l low. (λ on. held l low on, λ is. mine l low is) }
-  where
-    rank : (b : Bool) (g q : ℕ) → cond b (Some me) (known_at (lacked_in source target) ks g) ≡ Some q → q < P
-    rank true g q e = let is : me ≡ q = cc in subst (λ n. n < P) is known
-    rank false g q e = AreRanks-known P (lacked_in source target) ks g q below e
+pub lacked-owned : (me : ℕ) (source target : List ℕ) (ks : List (Option ℕ)) (q : ℕ)
+    → lacked source target (map (owner_by me source (lacked_in source target) ks) target) q ≡ filter (λ g. owns (known_at (lacked_in source target) ks g) q) (lacked_in source target)
+lacked-owned me source target ks q = lacked-known me source target (known_at (lacked_in source target) ks) q
 
-    ranked : (l q : ℕ) → owner_at (map (owner_by me source (lacked_in source target) ks) target) l ≡ Some q → q < P
+-- the conditions of an import
+pub known-owners : (me P : ℕ) (source target : List ℕ) (known : ℕ → Option ℕ) → me < P → ((g q : ℕ) → known g ≡ Some q → q < P)
+    → filter (λ g. owns (known g) me) (lacked_in source target) ≡ []
+    → AreOwners me P source target (map (owner_if_known me source known) target)
+known-owners me P source target known low_me below none =
+    record { each = length-map target (owner_if_known me source known); below = ranked; mine = λ l low. (λ on. held l low on, λ is. mine l low is) }
+  where
+    rank : (b : Bool) (g q : ℕ) → cond b (Some me) (known g) ≡ Some q → q < P
+    rank true g q e = let is : me ≡ q = cc in subst (λ n. n < P) is low_me
+    rank false g q e = below g q e
+
+    ranked : (l q : ℕ) → owner_at (map (owner_if_known me source known) target) l ≡ Some q → q < P
     ranked l q e = elim (cases_lt l (length target)) [
-      | inl low ↦ rank (stands (index_at target l) source) (index_at target l) q (sym (owner-at (owner_by me source (lacked_in source target) ks) target l low) ∙ e)
+      | inl low ↦ rank (stands (index_at target l) source) (index_at target l) q (sym (owner-at (owner_if_known me source known) target l low) ∙ e)
       | inr high ↦
-          let past : length (map (owner_by me source (lacked_in source target) ks) target) ≤ l = subst (λ n. n ≤ l) (sym (length-map target (owner_by me source (lacked_in source target) ks))) high in
-          let nothing : owner_at (map (owner_by me source (lacked_in source target) ks) target) l ≡ None =
-          sym (unwrap_or-slice_get (map (owner_by me source (lacked_in source target) ks) target) l None) ∙ ap (λ o. unwrap_or o None) (slice_get_past (map (owner_by me source (lacked_in source target) ks) target) l past) in
+          let past : length (map (owner_if_known me source known) target) ≤ l = subst (λ n. n ≤ l) (sym (length-map target (owner_if_known me source known))) high in
+          let nothing : owner_at (map (owner_if_known me source known) target) l ≡ None =
+          sym (unwrap_or-slice_get (map (owner_if_known me source known) target) l None) ∙ ap (λ o. unwrap_or o None) (slice_get_past (map (owner_if_known me source known) target) l past) in
           absurd (let bad : ⊥ = cc in bad)
     ]
 
-    held : (l : ℕ) → l < length target → stands (index_at target l) source ≡ true → owner_at (map (owner_by me source (lacked_in source target) ks) target) l ≡ Some me
-    held l low on =
-        owner-at (owner_by me source (lacked_in source target) ks) target l low ∙ ap (λ b. cond b (Some me) (known_at (lacked_in source target) ks (index_at target l))) on
+    held : (l : ℕ) → l < length target → stands (index_at target l) source ≡ true → owner_at (map (owner_if_known me source known) target) l ≡ Some me
+    held l low on = owner-at (owner_if_known me source known) target l low ∙ ap (λ b. cond b (Some me) (known (index_at target l))) on
 
-    mine : (l : ℕ) → l < length target → owner_at (map (owner_by me source (lacked_in source target) ks) target) l ≡ Some me → stands (index_at target l) source ≡ true
-    mine l low is = by (stands (index_at target l) source) refl (sym (owner-at (owner_by me source (lacked_in source target) ks) target l low) ∙ is)
+    mine : (l : ℕ) → l < length target → owner_at (map (owner_if_known me source known) target) l ≡ Some me → stands (index_at target l) source ≡ true
+    mine l low is = by (stands (index_at target l) source) refl (sym (owner-at (owner_if_known me source known) target l low) ∙ is)
       where
-        by : (b : Bool) → stands (index_at target l) source ≡ b → cond b (Some me) (known_at (lacked_in source target) ks (index_at target l)) ≡ Some me → stands (index_at target l) source ≡ true
+        by : (b : Bool) → stands (index_at target l) source ≡ b → cond b (Some me) (known (index_at target l)) ≡ Some me → stands (index_at target l) source ≡ true
         by true e own = e
         by false e own =
             let lacks : stands (index_at target l) (lacked_in source target) ≡ true =
             stands-filter (index_at target l) (λ g. not (stands g source)) target ∙ (λ i. stands-index_at target l low i && not (e i)) in
-            let is_own : owns (known_at (lacked_in source target) ks (index_at target l)) me ≡ true = ap (λ o. owns o me) own ∙ eq-eqb me me refl in
-            let there : stands (index_at target l) (filter (λ g. owns (known_at (lacked_in source target) ks g) me) (lacked_in source target)) ≡ true =
-            stands-filter (index_at target l) (λ g. owns (known_at (lacked_in source target) ks g) me) (lacked_in source target) ∙ (λ i. lacks i && is_own i) in
-            let nowhere : stands (index_at target l) (filter (λ g. owns (known_at (lacked_in source target) ks g) me) (lacked_in source target)) ≡ false = ap (stands (index_at target l)) none in
+            let is_own : owns (known (index_at target l)) me ≡ true = ap (λ o. owns o me) own ∙ eq-eqb me me refl in
+            let there : stands (index_at target l) (filter (λ g. owns (known g) me) (lacked_in source target)) ≡ true =
+            stands-filter (index_at target l) (λ g. owns (known g) me) (lacked_in source target) ∙ (λ i. lacks i && is_own i) in
+            let nowhere : stands (index_at target l) (filter (λ g. owns (known g) me) (lacked_in source target)) ≡ false = ap (stands (index_at target l)) none in
             absurd (let bad : ⊥ = cc in bad)
+
+pub target-owners : (me P : ℕ) (source target : List ℕ) (ks : List (Option ℕ)) → me < P → AreRanks P ks
+    → filter (λ g. owns (known_at (lacked_in source target) ks g) me) (lacked_in source target) ≡ []
+    → AreOwners me P source target (map (owner_by me source (lacked_in source target) ks) target)
+target-owners me P source target ks low below none =
+    known-owners me P source target (known_at (lacked_in source target) ks) low (λ g q e. AreRanks-known P (lacked_in source target) ks g q below e) none

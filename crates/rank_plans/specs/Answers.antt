@@ -59,3 +59,11 @@ abbrev pub target_owners : (me : ℕ) → (source target : List ℕ) → List (O
 target_owners me source [] owners = []
 target_owners me source (x ∷ xs) owners =
     (if stands x source then Some me else first_owner owners) ∷ target_owners me source xs (if stands x source then owners else rest_owners owners)
+
+-- the owner of an index by a rank that has these indices itself and knows those owners
+abbrev pub owner_by : ℕ → List ℕ → (ℕ → Option ℕ) → ℕ → ℕ
+owner_by me own known g = if stands g own then me else unwrap_or (known g) 0
+
+-- the same owner, where it may be unknown
+abbrev pub owner_if_known : ℕ → List ℕ → (ℕ → Option ℕ) → ℕ → Option ℕ
+owner_if_known me own known g = if stands g own then Some me else known g

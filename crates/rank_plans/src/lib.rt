@@ -35,10 +35,12 @@ mod book;
 mod indices;
 pub mod laws;
 mod lists;
+mod looked_up;
 mod owners;
 mod places;
 mod registered;
 mod registering;
+mod structures;
 mod task;
 
 pub use book::PlanBook;

@@ -25,12 +25,12 @@ use std::rc::Rc;
 #[derive(Drop)]
 pub(crate) struct PlanTask {
     plan: Plan,
-    ranks: u32,
+    pub(crate) ranks: u32,
     size: Gid,
-    lacking: Vec<Gid>,
-    owners: Vec<Option<u32>>,
+    pub(crate) lacking: Vec<Gid>,
+    pub(crate) owners: Vec<Option<u32>>,
     asked: Vec<Vec<Gid>>,
-    told: Vec<Vec<Gid>>,
+    pub(crate) told: Vec<Vec<Gid>>,
     made: Option<map_core::Plan>,
 }
 
@@ -260,7 +260,7 @@ impl PlanTask {
 }
 
 /// Accepts what each rank lacks.
-fn accept_all(import: &mut ImportPlan, told: &[Vec<Gid>]) -> Result<(), AllocError>
+pub(crate) fn accept_all(import: &mut ImportPlan, told: &[Vec<Gid>]) -> Result<(), AllocError>
     requires of_each { length told.now ≡ import.old.ranks }
     requires ranks_limit { import.old.ranks ≤ 32 }
     requires none { import.old.wants ≡ map (λ _. None) (range_with_len 0 import.old.ranks) }

@@ -33,7 +33,7 @@ use Rattle.model_defs.specs.declared.phase.Plan.{Plan}
 use Rattle.model_defs.specs.declared.phase.Plan.TheVariants.{ImportPlan, ExportPlan, ColumnPlan, RowPlan}
 use Rattle.model_defs.specs.declared.sheets.LetterLine.{LetterLine}
 use Rattle.model_defs.specs.Fitting.{IsFitting}
-use Rattle.model_defs.specs.Letters.{letter_entries, letter_names, sent_places}
+use Rattle.model_defs.specs.Letters.{letter_entries, letter_words}
 use Rattle.model_defs.specs.Machine.{arrivals, job_protocol, letter_of_phase, names_before, no_phase, place_bytes}
 use Rattle.model_defs.specs.Phases.{phases, share_kind}
 use Rattle.model_defs.specs.Plans.{One}
@@ -44,12 +44,8 @@ use Rattle.model_defs.proofs.Filters.{both, same_name-true}
 use Rattle.model_defs.proofs.Protocols.{jobs_are_protocols}
 use Rattle.model_defs.proofs.Runs.{all-known}
 use Rattle.job_phases.specs.Laws.{phase_at}
-use Rattle.rank_stages.specs.DataLaws.{IsCopied}
-use Rattle.rank_stages.specs.LetterLaws.{kind_about, sends_numbers}
-use Rattle.rank_stages.proofs.Copies.{data-letter, kind-is}
 use Rattle.rank_stages.proofs.LetterForms.{packed, phase-at, phases_have_kinds, plan-letter}
-use Rattle.vector_jobs.specs.VectorPhases.{HasVectorPhases, IsCopy}
-use Rattle.vector_jobs.proofs.VectorLists.{vector-jobs-have-phases}
+use Rattle.letter_entries.proofs.Entries.{letters-have-job-entries}
 use Rattle.rank_core.specs.declared.rank.Rank.{Rank}
 use Rattle.rank_core.specs.Results.{HasEntries, IsEntriesGiven, letter_given}
 use Rattle.rank_sim.specs.LetterLines.{line_of}
@@ -90,116 +86,15 @@ among-letters a n (l ∷ ls) all e = by (same_name n l.0) refl e (among-letters 
     by true s e rest = ap a (same_name-true n l.0 s) ∙ (both (a l.0) (list_all (λ l. a l.0) ls) all).0
     by false s e rest = rest e
 
--- ---- the form of a letter
+-- ---- the entries of a letter
 
--- whether entries are rows with their columns
-abbrev pub are_rows : Kind → Bool
-are_rows Rows = true
-are_rows _ = false
-
-share-plain : (plan : Plan) → are_rows (share_kind plan) ≡ false
-share-plain (ImportPlan source target) = refl
-share-plain (ExportPlan source target) = refl
-share-plain (ColumnPlan v) = refl
-share-plain (RowPlan v) = refl
-
-plan-plain : (job : Job) (k : ℕ) (about : About) → sends_numbers about ≡ false → are_rows (kind_about job k about) ≡ false
-plan-plain job k (RegisterMap m) e = refl
-plan-plain job k (AskOwners plan) e = refl
-plan-plain job k (TellOwners plan) e = refl
-plan-plain job k (SharePlan plan) e = share-plain plan
-plan-plain job k (SendNumbers t) e = absurd (cc)
-
--- then each word is an entry
-words-counted : (kind : Kind) (words : List ℕ) (count : ℕ) → are_rows kind ≡ false → IsEntryCount kind words count → count ≡ length words
-words-counted Reg words count e is = is
-words-counted Ask words count e is = is
-words-counted Tell words count e is = is
-words-counted Want words count e is = is
-words-counted Offer words count e is = is
-words-counted Nums words count e is = is
-words-counted Rows words count e is = absurd (cc)
-
--- bytes that are alike to a letter whose words are its entries have as many entries
-alike-counted : (kind : Kind) (words numbers posted bytes : List ℕ) (count : ℕ) → are_rows kind ≡ false → IsLetter kind words numbers → posted ≡ letter_bytes kind words numbers
-    → IsAlike posted bytes → HasEntries bytes count → count ≡ length words
-alike-counted kind words numbers posted bytes count plain letter is alike h =
+-- bytes that are alike to a letter have as many entries
+alike-counted : (kind : Kind) (words numbers posted bytes : List ℕ) (count many : ℕ) → ((n : ℕ) → IsEntryCount kind words n → n ≡ many) → IsLetter kind words numbers
+    → posted ≡ letter_bytes kind words numbers → IsAlike posted bytes → HasEntries bytes count → count ≡ many
+alike-counted kind words numbers posted bytes count many counted letter is alike h =
     let other = alike-letter kind words numbers bytes letter (subst (λ b. IsAlike b bytes) is alike) in
     let one = same_parts h.kind kind h.words words h.numbers other.0 h.letter.few other.3.few h.letter.fit other.3.fit (sym h.whole ∙ other.1) in
-    words-counted h.kind h.words count (ap are_rows one.0 ∙ plain) h.entries ∙ ap length one.1
-
-module _ {S : Type 0} (R : Semiring S) (F : Conversions S) (FL : AreConversions F) (job : Job) (files : List File) (valid : IsValid job) (fit : IsFitting job files) (has : HasVectorPhases job) (n : Name) (given : List Letter) where
-  -- the letter of a phase that its sender makes of what was given has its entries as words
-  pub record HasEntryWords (phase : Phase) : Type 0 where
-    pub numbers : List ℕ
-    pub whole : (job_protocol R F job files).content n given ≡ letter_bytes phase.kind (letter_entries job files phase n) numbers
-    pub letter : IsLetter phase.kind (letter_entries job files phase n) numbers
-    pub plain : are_rows phase.kind ≡ false
-
-  plan-words : (phase : Phase) → slice_get (phases job) n.phase ≡ Some phase → sends_numbers phase.about ≡ false → HasEntryWords phase
-  plan-words phase at plain =
-      let kind : phase.kind ≡ kind_about job phase.value phase.about = phases_have_kinds job n.phase phase at in
-      record {
-        numbers = [];
-        whole = packed R F job files n phase given at plain;
-        letter = subst (λ k. IsLetter k (letter_entries job files phase n) []) (sym kind)
-            (plan-letter job files valid n.phase phase.value phase.about n.from n.to (ap (option_map (λ (x : Phase). x.about)) at) plain);
-        plain = ap are_rows kind ∙ plan-plain job phase.value phase.about plain;
-      }
-
-  sent-words : (phase : Phase) (t : ℕ) → slice_get (phases job) n.phase ≡ Some phase → phase.about ≡ SendNumbers t → HasEntryWords phase
-  sent-words phase t at about = subst HasEntryWords (sym whole) (record {
-    numbers = numbers;
-    whole = ap (λ x. letter_of_phase R F job files x n before) (phase-at (phases job) n.phase no_phase phase at ∙ whole);
-    letter = data-letter job files k copy.source copied n.from n.to numbers many;
-    plain = refl;
-  })
-    where
-      k : ℕ
-      k = phase.value
-
-      sent : (t ≡ 0) × IsCopy job k
-      sent = has.copies n.phase phase t at about
-
-      copy : IsCopy job k
-      copy = sent.1
-
-      copied : IsCopied job files k copy.source
-      copied = record {
-        valid = valid;
-        fitting = fit;
-        below = copy.below;
-        is = copy.copied;
-        dense = (has.shapes copy.source (let b = copy.below in let s = copy.before in omega arith)).dense;
-      }
-
-      kind : phase.kind ≡ Nums
-      kind = phases_have_kinds job n.phase phase at ∙ ap (kind_about job k) about ∙ kind-is job files k copy.source copied
-
-      whole : phase ≡ record { kind = Nums; value = k; about = SendNumbers 0 }
-      whole = λ i. record { kind = kind i; value = k; about = (about ∙ ap SendNumbers sent.0) i }
-
-      before : List Letter
-      before = only (names_before n (letter_names job files)) given
-
-      places : List (Cell One)
-      places = sent_places job files k 0 n.from n.to
-
-      numbers : List ℕ
-      numbers = place_bytes R F (rank_entries R F job files n.from (arrivals R F job files n.from before) k 0) places
-
-      many : length numbers ≡ 32 * length places
-      many = length-number_bytes F FL _ ∙ ap (λ m. 32 * m) (length-map places _)
-
-  pub entry-words : (phase : Phase) → slice_get (phases job) n.phase ≡ Some phase → HasEntryWords phase
-  entry-words phase at = by phase.about refl
-    where
-      by : (about : About) → phase.about ≡ about → HasEntryWords phase
-      by (RegisterMap m) e = plan-words phase at (ap sends_numbers e)
-      by (AskOwners plan) e = plan-words phase at (ap sends_numbers e)
-      by (TellOwners plan) e = plan-words phase at (ap sends_numbers e)
-      by (SharePlan plan) e = plan-words phase at (ap sends_numbers e)
-      by (SendNumbers t) e = sent-words phase t at e
+    counted count (subst (λ k. IsEntryCount k words count) one.0 (subst (λ ws. IsEntryCount h.kind ws count) one.1 h.entries))
 
 -- ---- what the receiver answers
 
@@ -236,10 +131,10 @@ module _ {S : Type 0} {R : Semiring S} {F : Conversions S} (FL : AreConversions 
   line-is known low None is = sym (ap (λ b. cond b (letter_line job files (phase_at job n.phase) n ∷ []) []) (not-named low is))
   line-is known low (Some count) is =
       let at = there (phases job) n.phase no_phase known in
-      let words = entry-words R F FL job files all.input.valid all.input.fitting (vector-jobs-have-phases job all.input.valid all.input.vectors) n (firsts letters) at.0 at.1 in
+      let words = letters-have-job-entries R F FL job files at.0 n (firsts letters) all.input.valid all.input.fitting at.1 in
       let same : phase_at job n.phase ≡ at.0 = phase-at (phases job) n.phase no_phase at.0 at.1 in
       let many : count ≡ length (letter_entries job files (phase_at job n.phase) n) =
-      alike-counted at.0.kind (letter_entries job files at.0 n) words.numbers (P.content n (firsts letters)) is.0 count words.plain words.letter words.whole (alike-given is.0 is.1) is.2
+      alike-counted at.0.kind (letter_words job files at.0 n) words.numbers (P.content n (firsts letters)) is.0 count (length (letter_entries job files at.0 n)) words.counted words.letter words.whole (alike-given is.0 is.1) is.2
       ∙ ap (λ x. length (letter_entries job files x n)) (sym same) in
       ap (λ m. record { name = n; entries = m } ∷ []) many
       ∙ sym (ap (λ b. cond b (letter_line job files (phase_at job n.phase) n ∷ []) []) (named-given (given-there n is.0 (given_to n.to (firsts letters)) is.1)))

@@ -18,10 +18,16 @@ mod export_tests;
 mod fault;
 #[cfg(test)]
 mod import_tests;
+#[cfg(test)]
+mod matrix_tests;
 mod messages;
 #[cfg(test)]
 mod move_tests;
 mod output;
+#[cfg(test)]
+mod random_jobs;
+#[cfg(test)]
+mod random_tests;
 mod refusals;
 #[cfg(test)]
 mod residue_tests;

@@ -1,11 +1,8 @@
 //! Whole runs of jobs whose vectors move between maps.
 
 use crate::test_runs::{
-    BY_SCHEDULE, CASE, COORDINATE, Case, WITH_TRAFFIC, X, each, each_twisted, expect, run_case,
+    BY_SCHEDULE, CASE, COORDINATE, Case, WITH_TRAFFIC, X, each, each_fault, each_twisted,
 };
-use outside::MailRoom;
-use std::alloc::Global;
-use std::process::Abort;
 use std::test::Fail;
 
 /// The head of a job in which x is on a uniform map, and there is a cyclic one.
@@ -152,37 +149,13 @@ fn what_is_sent_is_what_the_wire_gives(rt: HostRuntime) -> Result<(), Fail> {
     each_twisted(&rt, rt.alloc(), 1, &TWISTED)
 }
 
-/// The run ends like this where the wire fails at this call.
-fn ends_at(
-    rt: &impl Abort,
-    alloc: Global,
-    case: &Case,
-    call: u64,
-    status: u8,
-    text: &[u8],
-    message: &[u8],
-) -> Result<(), Fail> {
-    let mut wire = MailRoom::new(alloc);
-    wire.fail_at(&[call])?;
-    let ran = run_case(alloc, case, &mut wire)?;
-    expect(rt, &ran, status, text, message, case.name);
-    Ok(())
-}
-
-/// The run ends alike at each call of the wire that fails, of this many. Where none fails it prints x.
-fn expect_faults(rt: &impl Abort, alloc: Global, case: &Case, calls: u64) -> Result<(), Fail> {
-    for call in 0..calls {
-        ends_at(rt, alloc, case, call, 9, b"", b"tpx: wire failed\n")?;
-    }
-    ends_at(rt, alloc, case, calls, 0, X.as_bytes(), b"")
-}
-
 /// Four letters are posted and taken, and where owners are asked for ten.
 const FAILING: [(Case, u64); 2] = [
     (
         Case {
             name: "a wire may fail at each call of a move",
             job: TO_CYCLIC,
+            text: &[X],
             ..CASE
         },
         8,
@@ -191,6 +164,7 @@ const FAILING: [(Case, u64); 2] = [
         Case {
             name: "a wire may fail at each call where owners are asked for",
             job: FROM_CYCLIC,
+            text: &[X],
             ..CASE
         },
         20,
@@ -200,7 +174,7 @@ const FAILING: [(Case, u64); 2] = [
 #[test]
 fn a_wire_may_fail_at_each_call(rt: HostRuntime) -> Result<(), Fail> {
     for (case, calls) in &FAILING {
-        expect_faults(&rt, rt.alloc(), case, *calls)?;
+        each_fault(&rt, rt.alloc(), case, *calls)?;
     }
     Ok(())
 }

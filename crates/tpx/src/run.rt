@@ -10,7 +10,7 @@ ghost use Rattle.rank_sim.specs.Writable.{IsWritable};
 ghost use Rattle.run_input.specs.Answering.{input_view};
 ghost use Rattle.run_input.specs.Sources.{SomeSource};
 ghost use Rattle.run_words.specs.Seen.{words_view};
-ghost use Rattle.vector_jobs.specs.VectorJobs.{IsVectorJob};
+ghost use Rattle.value_phases.specs.BuiltJobs.{IsBuiltJob};
 ghost use Rattle.tpx.specs.Calls.{SomeCall, is_settled};
 ghost use Rattle.tpx.specs.Endings.{reads};
 ghost use Rattle.tpx.specs.Faults.{result_status};
@@ -56,7 +56,7 @@ fn outcome_of<'a>(ended: Result<End, RunFault>) -> Result<Outcome, Fault<'a>>
 /// Plays the ranks of a job over a wire on which nothing is pending.
 fn play<'a, W: Wire>(alloc: Global, given: &Given, wire: &mut W) -> Result<Outcome, Fault<'a>>
     requires valid { IsValid given.now.job.value }
-    requires vectors { IsVectorJob given.now.job.value }
+    requires built { IsBuiltJob given.now.job.value }
     requires fitting { IsFitting given.now.job.value (map file_of given.now.files.items) }
     requires nothing_pending { (name : Name) → W.pending wire.old name ≡ None }
     ensures played { IsPlayedRun (input_view given.now) (wire_state W.pending W.posted W.taken W.given W.is_honest wire.old) (wire_state W.pending W.posted W.taken W.given W.is_honest wire.new) result }

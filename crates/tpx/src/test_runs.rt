@@ -97,6 +97,8 @@ pub struct Case {
     pub job: &'static [&'static str],
     /// The text of `x.mtx`.
     pub x: &'static str,
+    /// The text of `a.mtx`.
+    pub a: &'static str,
     /// The array texts of `p0`, `p1`, .., without their first lines.
     pub parts: &'static [&'static str],
     /// The text of `s`.
@@ -108,12 +110,13 @@ pub struct Case {
     pub message: &'static str,
 }
 
-/// The words `run j.toml` over x and an empty schedule, which succeed and print nothing.
+/// The words `run j.toml` over x, the matrix and an empty schedule, which succeed and print nothing.
 pub const CASE: Case = Case {
     name: "",
     words: &["run", "j.toml"],
     job: &[],
     x: X,
+    a: A,
     parts: &[],
     schedule: &[],
     status: 0,
@@ -153,6 +156,7 @@ pub fn files_of(alloc: Global, case: &Case) -> Result<MemFiles, AllocError> {
     let mut files = MemFiles::new(alloc);
     files.put("j.toml", joined(alloc, case.job)?.as_bytes())?;
     files.put("x.mtx", case.x.as_bytes())?;
+    files.put("a.mtx", case.a.as_bytes())?;
     files.put("s", joined(alloc, case.schedule)?.as_bytes())?;
     put_parts(alloc, case.parts, &mut files)?;
     Ok(files)
@@ -187,6 +191,27 @@ pub fn each(rt: &impl Abort, alloc: Global, cases: &[Case]) -> Result<(), Fail> 
         expect_case(rt, alloc, &ran, case)?;
     }
     Ok(())
+}
+
+/// The run ends with status 9 where the wire fails at this call.
+fn fails_at(rt: &impl Abort, alloc: Global, case: &Case, call: u64) -> Result<(), Fail> {
+    let mut wire = MailRoom::new(alloc);
+    wire.fail_at(&[call])?;
+    let ran = run_case(alloc, case, &mut wire)?;
+    expect(rt, &ran, 9, b"", b"tpx: wire failed\n", case.name);
+    Ok(())
+}
+
+/// The run makes this many calls on its wire: it ends with status 9 where one of them fails, and leaves what stands in the case
+/// where a later one would.
+pub fn each_fault(rt: &impl Abort, alloc: Global, case: &Case, calls: u64) -> Result<(), Fail> {
+    for call in 0..calls {
+        fails_at(rt, alloc, case, call)?;
+    }
+    let mut wire = MailRoom::new(alloc);
+    wire.fail_at(&[calls])?;
+    let ran = run_case(alloc, case, &mut wire)?;
+    expect_case(rt, alloc, &ran, case)
 }
 
 /// Each case leaves what stands in it where the wire adds this to the numbers that it gives.

@@ -8,18 +8,18 @@ use Rattle.plan_phases.proofs.entering.enter_register.Goals as goal
 
 pub begin_register-requires-clause-first : goal.begin_register-requires-clause-first
 begin_register-requires-clause-first g c =
-    map-was-new g.S.Scalar.semiring g.S.Scalar.conversions c.args.job.now c.requires.enters.0 c.args.book.now c.args.map c.requires.enters.1
+    map-was-new g.S.Scalar.semiring g.S.Scalar.conversions c.args.job.now c.requires.enters.0 c.args.book.now c.args.map c.requires.enters.2
 
 pub begin_register-requires-clause-below : goal.begin_register-requires-clause-below
 begin_register-requires-clause-below g c =
     let job = c.args.job.now in
     let below : All (λ x. x < c.size_of.result) (list_of job c.args.map c.me.result) =
-    subst (λ n. All (λ x. x < n) (list_of job c.args.map c.me.result)) (sym c.size_of.ensures.size) (list-below job c.requires.enters.1.kept.valid c.args.map c.me.result) in
+    subst (λ n. All (λ x. x < n) (list_of job c.args.map c.me.result)) (sym c.size_of.ensures.size) (list-below job c.requires.enters.2.kept.valid c.args.map c.me.result) in
     subst (λ xs. All (λ x. x < c.size_of.result) xs) (sym (c.deref.ensures ∙ c.in_ok-own.ensures.list)) below
 
 pub returns : goal.returns
 returns g c = record {
-  entered = λ files e values made.
+  entered = λ files list e values made.
       let job = c.args.job.now in
       let old = c.args.book.now in
       let m = c.args.map in

@@ -5,8 +5,8 @@ use Rattle.model_defs.specs.Maps.{list_of}
 use Rattle.rank_plans.specs.Books.{own_of, told_of}
 use Rattle.rank_plans.specs.Tasks.{export_of, import_of}
 use Rattle.plan_phases.proofs.AbsorbedResults.{all_three}
-use Rattle.plan_phases.proofs.FinishedBook.{share-export, share-finished, share-held, share-import, share-lacking, share-made, share-maps, share-none}
-use Rattle.plan_phases.proofs.MapPlans.{export-ends, import-ends, no-other}
+use Rattle.plan_phases.proofs.FinishedBook.{made-before, share-export, share-finished, share-held, share-import, share-lacking, share-made, share-none, share-of-job}
+use Rattle.plan_phases.proofs.MapPlans.{either-structure, export-ends, import-ends, shared-structure}
 use Rattle.plan_phases.proofs.finishing.finish_share.Goals as goal
 
 pub make_import-requires-clause-known_source : goal.make_import-requires-clause-known_source
@@ -14,14 +14,16 @@ make_import-requires-clause-known_source g c =
     let source = c.in-ImportPlan.source in
     let target = c.in-ImportPlan.target in
     let is = ap SharePlan c.in-ImportPlan.is in
-    (import-ends c.args.job.now source target (share-maps g.S.Scalar.semiring g.S.Scalar.conversions c.args.job.now c.requires.leaves.0 c.args.book.now (SharePlan c.args.plan) c.requires.leaves.1 (ImportPlan source target) is)).0
+    let known = share-of-job g.S.Scalar.semiring g.S.Scalar.conversions c.args.job.now c.requires.leaves.0 c.args.book.now (SharePlan c.args.plan) c.requires.leaves.1 (ImportPlan source target) is in
+    (import-ends c.args.job.now source target known.0 (ImportPlan source target) refl known.1).0
 
 pub make_import-requires-clause-known_target : goal.make_import-requires-clause-known_target
 make_import-requires-clause-known_target g c =
     let source = c.in-ImportPlan.source in
     let target = c.in-ImportPlan.target in
     let is = ap SharePlan c.in-ImportPlan.is in
-    (import-ends c.args.job.now source target (share-maps g.S.Scalar.semiring g.S.Scalar.conversions c.args.job.now c.requires.leaves.0 c.args.book.now (SharePlan c.args.plan) c.requires.leaves.1 (ImportPlan source target) is)).1
+    let known = share-of-job g.S.Scalar.semiring g.S.Scalar.conversions c.args.job.now c.requires.leaves.0 c.args.book.now (SharePlan c.args.plan) c.requires.leaves.1 (ImportPlan source target) is in
+    (import-ends c.args.job.now source target known.0 (ImportPlan source target) refl known.1).1
 
 pub make_import-requires-clause-lacking : goal.make_import-requires-clause-lacking
 make_import-requires-clause-lacking g c =
@@ -75,14 +77,16 @@ make_export-requires-clause-known_source g c =
     let source = c.in-ExportPlan.source in
     let target = c.in-ExportPlan.target in
     let is = ap SharePlan c.in-ExportPlan.is in
-    (export-ends c.args.job.now source target (share-maps g.S.Scalar.semiring g.S.Scalar.conversions c.args.job.now c.requires.leaves.0 c.args.book.now (SharePlan c.args.plan) c.requires.leaves.1 (ExportPlan source target) is)).0
+    let known = share-of-job g.S.Scalar.semiring g.S.Scalar.conversions c.args.job.now c.requires.leaves.0 c.args.book.now (SharePlan c.args.plan) c.requires.leaves.1 (ExportPlan source target) is in
+    (export-ends c.args.job.now source target known.0 (ExportPlan source target) refl known.1).0
 
 pub make_export-requires-clause-known_target : goal.make_export-requires-clause-known_target
 make_export-requires-clause-known_target g c =
     let source = c.in-ExportPlan.source in
     let target = c.in-ExportPlan.target in
     let is = ap SharePlan c.in-ExportPlan.is in
-    (export-ends c.args.job.now source target (share-maps g.S.Scalar.semiring g.S.Scalar.conversions c.args.job.now c.requires.leaves.0 c.args.book.now (SharePlan c.args.plan) c.requires.leaves.1 (ExportPlan source target) is)).1
+    let known = share-of-job g.S.Scalar.semiring g.S.Scalar.conversions c.args.job.now c.requires.leaves.0 c.args.book.now (SharePlan c.args.plan) c.requires.leaves.1 (ExportPlan source target) is in
+    (export-ends c.args.job.now source target known.0 (ExportPlan source target) refl known.1).1
 
 pub make_export-requires-clause-lacking : goal.make_export-requires-clause-lacking
 make_export-requires-clause-lacking g c =
@@ -131,8 +135,11 @@ returns-in-ExportPlan-clause-made g c =
     (own_of c.args.book.now (ExportPlan source target)) (told_of c.args.book.now (ExportPlan source target)))
     (share-export g.S.Scalar.semiring g.S.Scalar.conversions c.args.job.now files c.args.book.now (SharePlan c.args.plan) e source target is) makes others stays)
 
-pub unreachable-requires : goal.unreachable-requires
-unreachable-requires g c =
-    no-other c.args.job.now c.args.plan
-    (share-maps g.S.Scalar.semiring g.S.Scalar.conversions c.args.job.now c.requires.leaves.0 c.args.book.now (SharePlan c.args.plan) c.requires.leaves.1 c.args.plan refl)
-    c.in_default.not-ImportPlan c.in_default.not-ExportPlan
+pub returns-in-ColumnPlan : goal.returns-in-ColumnPlan
+returns-in-ColumnPlan g c =
+    record {
+      kept = λ files e. e.kept;
+      made = λ files e.
+          made-before g.S.Scalar.semiring g.S.Scalar.conversions c.args.job.now files c.args.book.now (SharePlan c.args.plan) e
+          (λ other same off. shared-structure c.args.plan other (either-structure c.args.plan c.in-ColumnPlan.is) same off);
+    }

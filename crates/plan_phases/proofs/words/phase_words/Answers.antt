@@ -1,17 +1,11 @@
 use Rattle.std.proofs.lemmas.Result.{IfOk-weaker}
-use Rattle.plan_phases.proofs.WordsSent.{sent-asked, sent-directory, sent-maps, sent-registered, sent-shared, sent-told}
+use Rattle.plan_phases.proofs.WordsSent.{sent-asked, sent-directory, sent-registered, sent-shared, sent-told}
 use Rattle.plan_phases.proofs.words.phase_words.Goals as goal
-
-pub owner_map-requires : goal.owner_map-requires
-owner_map-requires g c =
-    record {
-      of_maps = sent-maps g.S.Scalar.semiring g.S.Scalar.conversions c.args.job.now c.requires.sends.0 c.args.book.now c.args.about c.args.to c.requires.sends.1 c.in-TellOwners.plan c.in-TellOwners.is;
-    }
 
 pub tell_words-requires-clause-known_map : goal.tell_words-requires-clause-known_map
 tell_words-requires-clause-known_map g c =
     sent-directory g.S.Scalar.semiring g.S.Scalar.conversions c.args.job.now c.requires.sends.0 c.args.book.now c.args.about c.args.to c.requires.sends.1 c.owner_map.result
-    c.in-TellOwners.plan c.in-TellOwners.is c.owner_map.ensures.map
+    c.in-TellOwners.plan c.in-TellOwners.is (c.owner_map.ensures.map c.args.job.now c.requires.shapes)
 
 pub returns-in-RegisterMap : goal.returns-in-RegisterMap
 returns-in-RegisterMap g c =
@@ -37,7 +31,7 @@ returns-in-TellOwners g c =
       words = IfOk-weaker c.tell_words.result _ _
           (λ words same. λ files k e.
           sent-told g.S.Scalar.semiring g.S.Scalar.conversions c.args.job.now files c.args.book.now c.args.about c.args.to e c.owner_map.result k c.in-TellOwners.plan c.in-TellOwners.is
-          c.owner_map.ensures.map words.items same)
+          (c.owner_map.ensures.map c.args.job.now c.requires.shapes) words.items same)
           c.tell_words.ensures.words;
     }
 

@@ -1,7 +1,9 @@
-use Rattle.std.proofs.Common.{◌≡◌, length, nat_lt, take}
+use Rattle.std.proofs.Common.{◌≡◌, ◌<◌, length, nat_lt, take}
+use Rattle.std.specs.Prelude.{All}
 use Rattle.std.specs.List.{filter}
-use Rattle.map_core.specs.Plans.{remote_list}
+use Rattle.rank_makings.specs.Comings.{IsComingIn, Scene, rows_between}
 use Rattle.rank_core.proofs.names.awaited_names.Given as goal
 
 abbrev pub invariant-loop-name : goal.invariant-loop-name
-invariant-loop-name g l = l.awaited.items ≡ filter (λ n. nat_lt 0 (length (remote_list l.arriving.plan n.from))) (take l.name-index l.names)
+invariant-loop-name g l = (e : Scene _) → IsComingIn g.S.Scalar.semiring g.S.Scalar.conversions e l.coming → All (λ n. n.from < e.job.ranks) l.names
+    → l.awaited.items ≡ filter (λ n. nat_lt 0 (length (rows_between e n.from e.me))) (take l.name-index l.names)

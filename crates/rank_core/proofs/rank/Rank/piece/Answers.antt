@@ -12,10 +12,10 @@ past v n off = elim (cases_lt v n) [ inl low ↦ let bad : true ≡ false = sym 
 
 pub returns-in-Some-clause-cells : goal.returns-in-Some-clause-cells
 returns-in-Some-clause-cells g c =
-    if-ok c.global_cells.result c.global_cells.ensures.cells (λ cells is s rank done.
-    is ∙ result-some g.S.Scalar.semiring g.S.Scalar.conversions g.met.S.Scalar.conversion_laws c.worker.result.now s (c.worker.ensures.peer s rank done.worked) done c.args.value c.in-Some.vector.now
+    if-ok c.piece_cells.result c.piece_cells.ensures.cells (λ cells is s rank done.
+    is ∙ result-some g.S.Scalar.semiring g.S.Scalar.conversions g.met.S.Scalar.conversion_laws c.worker.result.now s (c.worker.ensures.peer s rank done.worked) done c.args.value c.in-Some.piece.now
     (ap (λ xs. slice_get xs c.args.value) (sym c.values.ensures.values)
-    ∙ slice_get-get_or c.values.result.now c.args.value c.in-Some.vector.now (ltb-true c.args.value (length c.values.result.now) (sym c.in-Some.ensures.lookup.0))
+    ∙ slice_get-get_or c.values.result.now c.args.value c.in-Some.piece.now (ltb-true c.args.value (length c.values.result.now) (sym c.in-Some.ensures.lookup.0))
     ∙ ap (λ x. Some x) (sym c.in-Some.ensures.lookup.1)))
 
 pub returns-in-None-clause-cells : goal.returns-in-None-clause-cells

@@ -1,7 +1,7 @@
 use Rattle.std.proofs.Common.{◌≡◌, sym, subst}
 use Rattle.model_defs.specs.Machine.{job_protocol}
 use Rattle.rank_phases.specs.Stages.{beginning}
-use Rattle.rank_core.specs.Inputs.{IsRankInput}
+use Rattle.rank_pieces.specs.Inputs.{IsRankInput}
 use Rattle.rank_core.specs.Workers.{IsJobWorker}
 use Rattle.std.specs.Prelude.{length}
 use Rattle.model_defs.specs.Phases.{phases}

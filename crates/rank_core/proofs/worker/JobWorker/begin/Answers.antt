@@ -2,7 +2,6 @@ use Rattle.std.proofs.Common.{◌∙◌, ap, sym, refl}
 use Rattle.std.specs.Prelude.{slice_get}
 use Rattle.std.specs.Option.{option_map}
 use Rattle.model_defs.specs.declared.phase.Phase.{Phase}
-use Rattle.rank_stages.specs.LetterLaws.{sends_numbers}
 use Rattle.rank_core.proofs.Counted.{past-of}
 use Rattle.rank_core.proofs.Entered.{end-awaits, end-entered, end-posts, plain-otherwise}
 use Rattle.rank_core.proofs.worker.JobWorker.begin.Goals as goal
@@ -26,13 +25,13 @@ returns-in-None-clause-enters g c = λ s ready can.
 
 pub enter_numbers-requires-clause-next : goal.enter_numbers-requires-clause-next
 enter_numbers-requires-clause-next g c =
-    let ready = c.requires.1.0 in (
-      c.in-Some.next,
-      (
-        ap (λ xs. slice_get xs c.args.phase) (sym ready.worker_of.phase_list) ∙ sym c.in-Some.ensures,
-        (refl, ap sends_numbers c.in-SendNumbers.is),
-      ),
-    )
+    let ready = c.requires.1.0 in
+    record {
+      phase = c.in-Some.next;
+      at = ap (λ xs. slice_get xs c.args.phase) (sym ready.worker_of.phase_list) ∙ sym c.in-Some.ensures;
+      value = refl;
+      about = c.in-SendNumbers.is;
+    }
 
 pub enter_plan-requires : goal.enter_plan-requires
 enter_plan-requires g c =

@@ -1,4 +1,4 @@
-use Rattle.std.proofs.Common.{◌≡◌, ℕ, suc, ◌<◌, ◌-◌, true, List, length, Some, sym, subst, ap, arith}
+use Rattle.std.proofs.Common.{◌≡◌, ℕ, suc, ◌<◌, ◌-◌, true, false, List, length, Some, sym, subst, ap, arith}
 use Rattle.std.specs.Prelude.{is_some}
 use Rattle.mm_text.specs.Reading.{File}
 use Rattle.model_defs.specs.declared.phase.About.TheVariants.{SharePlan}
@@ -8,6 +8,7 @@ use Rattle.rank_plans.specs.Books.{made_of}
 use Rattle.rank_stages.specs.JobStages.{about_at}
 use Rattle.plan_phases.specs.BookCalls.{IsLeavingBook}
 use Rattle.plan_phases.specs.BookStages.{IsBookStage}
+use Rattle.value_phases.specs.ValuePhases.{is_of_structure}
 use Rattle.rank_core.proofs.Clauses.{on-both}
 use Rattle.rank_core.proofs.Standing.{about-of}
 use Rattle.rank_core.proofs.worker.JobWorker.finish_last.Goals as goal
@@ -36,7 +37,7 @@ returns g c =
     } in
     let kept_so = subst (λ j. (files : List File) (e : IsLeavingBook R F j files book about) → IsBookStage R F j files new e.view e.stage) same kept in
     let made_so =
-    subst (λ j. (files : List File) (e : IsLeavingBook R F j files book about) (n : ℕ) (plan : Plan) → about_at j n ≡ Some (SharePlan plan) → n < e.stage.entered → is_some (made_of new plan) ≡ true) same made in
+    subst (λ j. (files : List File) (e : IsLeavingBook R F j files book about) (n : ℕ) (plan : Plan) → about_at j n ≡ Some (SharePlan plan) → is_of_structure plan ≡ false → n < e.stage.entered → is_some (made_of new plan) ≡ true) same made in
     record {
       stands_so = record {
         files = stands.files;
@@ -51,7 +52,7 @@ returns g c =
         };
         book = kept_so stands.files leaving;
         values = stands.values;
-        gathering = stands.gathering;
+        making = stands.making;
         counts = stands.counts;
       };
       plans = made_so stands.files leaving;

@@ -1,47 +1,32 @@
-use Rattle.std.proofs.Common.{◌∙◌, ap}
-use Rattle.rank_core.proofs.Clauses.{on-ok}
-use Rattle.rank_core.proofs.NextValues.{before, came, here, known, made, more}
+use Rattle.std.proofs.Common.{List, ap, refl, sym, subst, ◌∙◌}
+use Rattle.mm_text.specs.Reading.{File}
+use Rattle.value_phases.proofs.Built.{built-jobs-have-values}
+use Rattle.value_phases.proofs.Matrices.{matrices-are-known}
+use Rattle.value_phases.proofs.NumberedPhases.{jobs-have-value-phases}
+use Rattle.value_phases.proofs.Stages.{jobs-have-value-stages}
+use Rattle.rank_makings.proofs.Filled.{parts-are-filled, rows-are-filled}
+use Rattle.rank_pieces.specs.Inputs.{IsRankInput}
+use Rattle.rank_core.specs.declared.worker.JobWorker.{JobWorker}
+use Rattle.rank_core.specs.Leaving.{IsNext}
+use Rattle.rank_core.specs.Workers.{IsReady}
+use Rattle.rank_core.proofs.Ready.{ready-so}
 use Rattle.rank_core.proofs.worker.JobWorker.make.Goals as goal
 
-pub make_values-requires-clause-before : goal.make_values-requires-clause-before
-make_values-requires-clause-before g c =
-    before g.S.Scalar.semiring g.S.Scalar.conversions c.args.self.now c.requires.0 c.requires.1.0.stands_so c.args.phase c.requires.1.1
-    c.deref.result.now c.deref.ensures c.arrived_vector-arrived.result (c.arrived_vector-arrived.ensures ∙ ap came c.take.ensures.value) c.count_before-count.result c.count_before-count.ensures
-
-pub make_values-requires-clause-more : goal.make_values-requires-clause-more
-make_values-requires-clause-more g c =
-    more g.S.Scalar.semiring g.S.Scalar.conversions c.args.self.now c.requires.0 c.requires.1.0.stands_so c.args.phase c.requires.1.1
-    c.deref.result.now c.deref.ensures c.arrived_vector-arrived.result (c.arrived_vector-arrived.ensures ∙ ap came c.take.ensures.value) c.count_before-count.result c.count_before-count.ensures
-
-pub make_values-requires-clause-known : goal.make_values-requires-clause-known
-make_values-requires-clause-known g c =
-    known g.S.Scalar.semiring g.S.Scalar.conversions c.args.self.now c.requires.0 c.requires.1.0.stands_so c.args.phase c.requires.1.1
-    c.deref.result.now c.deref.ensures c.arrived_vector-arrived.result (c.arrived_vector-arrived.ensures ∙ ap came c.take.ensures.value) c.count_before-count.result c.count_before-count.ensures
-
-pub make_values-requires-clause-here : goal.make_values-requires-clause-here
-make_values-requires-clause-here g c =
-    here g.S.Scalar.semiring g.S.Scalar.conversions c.args.self.now c.requires.0 c.requires.1.0.stands_so c.args.phase c.requires.1.1
-    c.deref.result.now c.deref.ensures c.arrived_vector-arrived.result (c.arrived_vector-arrived.ensures ∙ ap came c.take.ensures.value) c.count_before-count.result c.count_before-count.ensures
-
 pub returns : goal.returns
-returns g c = on-ok c.make_values.result c.make_values.ensures.values (λ all s leaving can.
+returns g c = λ s leaving can.
+    let R = g.S.Scalar.semiring in
+    let F = g.S.Scalar.conversions in
+    let worker = c.args.self.now in
     let stands = leaving.stands_so in
-    record {
-      files = stands.files;
-      view = stands.view;
-      worker_of = record {
-        input = stands.worker_of.input;
-        rank = stands.worker_of.rank;
-        shapes = stands.worker_of.shapes;
-        shape_count = stands.worker_of.shape_count;
-        phase_list = stands.worker_of.phase_list;
-        phase_count = stands.worker_of.phase_count;
-      };
-      book = stands.book;
-      plans = leaving.plans;
-      values = made g.S.Scalar.semiring g.S.Scalar.conversions c.args.self.now s stands c.args.phase can
-          c.deref.result.now c.deref.ensures c.arrived_vector-arrived.result (c.arrived_vector-arrived.ensures ∙ ap came c.take.ensures.value) c.count_before-count.result c.count_before-count.ensures
-          c.make_values.new.values.items all;
-      gathering = c.take.ensures.after;
-      counts = stands.counts;
-    })
+    let input = stands.worker_of.input in
+    let made = record worker { values = c.leave.new.self.values; making = c.in_ok-next.next } in
+    let is = c.put_making.ensures.put ∙ ap {A = JobWorker g.row.S.Denot} (λ w. record w { making = c.in_ok-next.next }) c.in_ok-left.ensures.stays in
+    let next_at = subst (λ j. (files : List File) → IsRankInput F j files c.leave.new.self.me c.leave.new.self.share
+    → IsNext R F j files c.leave.new.self.me c.count_before-count.result c.in_ok-left.left c.in_ok-next.next) c.deref.ensures c.in_ok-next.ensures.next in
+    let next_is = subst (λ (w : JobWorker g.row.S.Denot). (files : List File) → IsRankInput F w.job.value files w.me w.share
+    → IsNext R F w.job.value files w.me c.count_before-count.result c.in_ok-left.left c.in_ok-next.next) c.in_ok-left.ensures.stays next_at stands.files input in
+    subst (λ w. IsReady R F w s) (sym is)
+    (ready-so R F (parts-are-filled R F) (rows-are-filled R F) matrices-are-known worker s leaving c.args.phase can
+    (jobs-have-value-phases worker.job.value input.valid) (jobs-have-value-stages worker.job.value input.valid) (built-jobs-have-values worker.job.value input.valid input.built)
+    c.count_before-count.result c.count_before-count.ensures made c.in_ok-left.left c.in_ok-next.next refl
+    (c.in_ok-left.ensures.pieces s leaving can) c.in_ok-left.ensures.left next_is)

@@ -4,6 +4,7 @@ use Rattle.model_defs.specs.Phases.{phases}
 use Rattle.model_defs.specs.Shapes.{shape}
 use Rattle.plan_phases.specs.Laws.{empty_book}
 use Rattle.rank_stages.proofs.FewPhases.{phases_are_few}
+use Rattle.value_phases.proofs.NumberedPhases.{jobs-have-value-phases}
 use Rattle.rank_core.proofs.FreshWorkers.{begins}
 use Rattle.rank_core.proofs.worker.JobWorker.new.Goals as goal
 
@@ -29,10 +30,10 @@ returns g c = record {
         phase_count = c.len.result;
         values = c.new.result;
         book = c.new-book.result;
-        gathering = None;
+        making = None;
         counts = c.new-2.result;
       })
-      files input
+      files input (jobs-have-value-phases c.args.job.value input.valid)
       (c.in_ok-shapes.ensures.shapes ∙ ap shape c.deref.ensures)
       (c.in_ok-shapes.ensures.count ∙ ap value_count c.deref.ensures)
       (c.in_ok-phases.ensures.phases ∙ ap phases c.deref-2.ensures)

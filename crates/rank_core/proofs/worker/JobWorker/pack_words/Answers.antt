@@ -3,6 +3,8 @@ use Rattle.mm_text.specs.Reading.{File}
 use Rattle.byte_pool.specs.Leases.{leases, with_lease}
 use Rattle.letter_codec.specs.Letters.{letter_bytes}
 use Rattle.model_defs.specs.Letters.{entries_about}
+use Rattle.model_defs.specs.ShapeLists.{at_list}
+use Rattle.model_defs.specs.Shapes.{shape}
 use Rattle.plan_phases.specs.BookCalls.{IsSendingBook}
 use Rattle.rank_core.proofs.Clauses.{if-ok}
 use Rattle.rank_core.proofs.PackedLetters.{phase-there, sending-book, words-content}
@@ -22,6 +24,7 @@ phase_words-requires g c =
     let stands = c.requires.sends.1.0 in
     let send = c.requires.sends.1.1 in
     record {
+      shapes = ap at_list c.deref-2.ensures.value ∙ stands.worker_of.shapes ∙ ap shape (sym c.deref.ensures);
       sends = (
         stands.files,
         subst (λ j. IsSendingBook R F j stands.files c.args.self.now.book c.index-phase.result.now.about c.args.name.to) (sym c.deref.ensures)
@@ -36,7 +39,7 @@ returns-clause-ok g c =
     let x = c.index-phase.result.now in
     if-ok c.lease_words.result c.lease_words.ensures.letter (λ lease lent s stands send.
     lent
-    ∙ ap (λ ws. with_lease (leases c.args.pool.now) lease (letter_bytes x.kind ws [])) c.deref-2.ensures.value
+    ∙ ap (λ ws. with_lease (leases c.args.pool.now) lease (letter_bytes x.kind ws [])) c.deref-3.ensures.value
     ∙ ap (with_lease (leases c.args.pool.now) lease)
     (words-content R F c.args.self.now s stands c.args.name send c.requires.none x c.index-phase.ensures c.in_ok-words.words.items
     (subst (λ j. (files : List File) (k : ℕ) (e : IsSendingBook R F j files c.args.self.now.book x.about c.args.name.to) → c.in_ok-words.words.items ≡ entries_about j files k x.about e.stage.rank c.args.name.to)

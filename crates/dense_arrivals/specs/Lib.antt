@@ -1,0 +1,3 @@
+pub mod DenseLetters
+pub mod DenseBegun
+pub mod Applies

@@ -1,0 +1,3 @@
+pub mod Inputs
+pub mod Pieces
+pub mod Steps

@@ -1,0 +1,11 @@
+pub mod Copies
+pub mod Applies
+pub mod ValueMakers
+pub mod ActLists
+pub mod ValueActs
+pub mod MadePlans
+pub mod ValueLists
+pub mod NumberedPhases
+pub mod Built
+pub mod Matrices
+pub mod Stages

@@ -1,4 +1,0 @@
-pub mod Copies
-pub mod VectorMakers
-pub mod VectorActs
-pub mod VectorLists

@@ -1,3 +1,0 @@
-pub mod VectorJobs
-pub mod VectorPhases
-pub mod Laws
