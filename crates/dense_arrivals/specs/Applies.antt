@@ -23,7 +23,7 @@ use Rattle.model_defs.specs.Stages.{Arrivals, first_pieces, gathered_after, made
 use Rattle.model_defs.specs.Transfers.{owner_map, from_owners, to_owners}
 use Rattle.model_defs.specs.Valid.{IsValid}
 use Rattle.rank_matrices.specs.Matrices.{product_on}
-use Rattle.value_phases.specs.BuiltValues.{IsApply}
+use Rattle.value_phases.specs.ValueKinds.{IsApply}
 use Rattle.dense_arrivals.specs.DenseBegun.{AgreeOn}
 
 -- An apply of a valid job whose files fit.

@@ -10,7 +10,6 @@ use Rattle.job_text.specs.declared.place.Place.TheVariants as place
 use Rattle.job_text.specs.declared.words.MapKind.{MapKind}
 use Rattle.job_text.specs.declared.words.MapKind.TheVariants as kind
 use Rattle.job_text.specs.declared.words.Form.TheVariants as form
-use Rattle.job_text.specs.declared.words.Unbuilt.{Unbuilt}
 use Rattle.job_text.specs.Outcomes.{Outcome, ◌>>=◌, or_fault}
 use Rattle.job_text.specs.Names.{Text, key_name}
 use Rattle.job_text.specs.Words.{kind_named}
@@ -21,11 +20,11 @@ use Rattle.job_text.specs.Layouts.{are_sound_lists}
 use Rattle.job_text.specs.Known.{Known, with_spec, Read, read}
 
 -- the kind decides the form
-abbrev pub kind_of : Unbuilt → Place → Data → Outcome MapKind
-kind_of u at d = text_of at (codes "kind") d >>= λ word. or_fault (wrong_kind at (codes "kind")) (kind_named u word)
+abbrev pub kind_of : Place → Data → Outcome MapKind
+kind_of at d = text_of at (codes "kind") d >>= λ word. or_fault (wrong_kind at (codes "kind")) (kind_named word)
 
-abbrev pub kind_at : Unbuilt → Place → Members → Outcome MapKind
-kind_at u at table = required at table (codes "kind") >>= kind_of u at
+abbrev pub kind_at : Place → Members → Outcome MapKind
+kind_at at table = required at table (codes "kind") >>= kind_of at
 
 abbrev pub uniform_map : Text → ℕ → MapSpec
 uniform_map name size = record { name = name; size = size; form = Uniform }
@@ -77,16 +76,16 @@ map_of_kind at table known k = do
   name ← new_name_at at table known
   form_in at table known.ranks name k
 
-abbrev pub map_in : Unbuilt → Place → Members → Known → Outcome MapSpec
-map_in u at table known = kind_at u at table >>= map_of_kind at table known
+abbrev pub map_in : Place → Members → Known → Outcome MapSpec
+map_in at table known = kind_at at table >>= map_of_kind at table known
 
 abbrev pub with_next_map : Read MapSpec → MapSpec → Read MapSpec
 with_next_map so_far spec = read (with_spec so_far.known spec) (so_far.done ++ spec ∷ [])
 
 -- the maps of the tables from number k on, after those that were read
-abbrev pub maps_after : Unbuilt → Read MapSpec → ℕ → Items → Outcome (Read MapSpec)
-maps_after u so_far k no_items = Ok so_far
-maps_after u so_far k (item d ds) = do
+abbrev pub maps_after : Read MapSpec → ℕ → Items → Outcome (Read MapSpec)
+maps_after so_far k no_items = Ok so_far
+maps_after so_far k (item d ds) = do
   table ← table_of (codes "map") d
-  spec ← map_in u (place.Map k) table so_far.known
-  maps_after u (with_next_map so_far spec) (k + 1) ds
+  spec ← map_in (place.Map k) table so_far.known
+  maps_after (with_next_map so_far spec) (k + 1) ds

@@ -48,7 +48,6 @@ step_keys op.Print = codes "value" ∷ []
 -- the keys of a table by its form; beside a file there is no `fill`
 abbrev pub keys_of : Form → List Text
 keys_of form.Top = codes "ranks" ∷ codes "map" ∷ codes "vector" ∷ codes "parts" ∷ codes "matrix" ∷ codes "do" ∷ []
-keys_of form.TopWithoutMatrix = codes "ranks" ∷ codes "map" ∷ codes "vector" ∷ codes "parts" ∷ codes "do" ∷ []
 keys_of (form.Map k) = codes "kind" ∷ map_keys k
 keys_of form.OfFile = codes "name" ∷ codes "map" ∷ codes "columns" ∷ codes "file" ∷ []
 keys_of form.OfFiles = codes "name" ∷ codes "map" ∷ codes "columns" ∷ codes "files" ∷ []

@@ -9,7 +9,6 @@ use Rattle.job_text.specs.declared.place.Place.TheVariants as place
 use Rattle.job_text.specs.declared.words.Op.{Op}
 use Rattle.job_text.specs.declared.words.Op.TheVariants as op
 use Rattle.job_text.specs.declared.words.Form.TheVariants as form
-use Rattle.job_text.specs.declared.words.Unbuilt.{Unbuilt}
 use Rattle.job_text.specs.Outcomes.{Outcome, ◌>>=◌, or_fault}
 use Rattle.job_text.specs.Words.{op_named}
 use Rattle.job_text.specs.Keys.{wrong_kind, required, text_of, only_keys, new_name_at, map_at, value_at, value_or_none, mode_at, mode_or, integer_at, integer_or, flag_or}
@@ -18,11 +17,11 @@ use Rattle.job_text.specs.Tables.{table_of}
 use Rattle.job_text.specs.Statements.{can_move, can_import, can_export, can_spread, can_update, can_apply, can_transpose, can_multiply, can_add, can_assemble, can_print}
 
 -- what the statement does decides its form
-abbrev pub op_of : Unbuilt → Place → Data → Outcome Op
-op_of u at d = text_of at (codes "op") d >>= λ word. or_fault (wrong_kind at (codes "op")) (op_named u word)
+abbrev pub op_of : Place → Data → Outcome Op
+op_of at d = text_of at (codes "op") d >>= λ word. or_fault (wrong_kind at (codes "op")) (op_named word)
 
-abbrev pub op_at : Unbuilt → Place → Members → Outcome Op
-op_at u at table = required at table (codes "op") >>= op_of u at
+abbrev pub op_at : Place → Members → Outcome Op
+op_at at table = required at table (codes "op") >>= op_of at
 
 -- Statement k.
 module _ (k : ℕ) (table : Members) (known : Known) where
@@ -149,13 +148,13 @@ module _ (k : ℕ) (table : Members) (known : Known) where
   abbrev pub step_by : Op → Outcome Step
   step_by o = only_keys here (form.Do o) table >>= λ only. step_of o
 
-  abbrev pub step_in : Unbuilt → Outcome Step
-  step_in u = op_at u here table >>= step_by
+  abbrev pub step_in : Outcome Step
+  step_in = op_at here table >>= step_by
 
 -- the statements of the tables from number k on, after those that were read
-abbrev pub steps_after : Unbuilt → Read Step → ℕ → Items → Outcome (Read Step)
-steps_after u so_far k no_items = Ok so_far
-steps_after u so_far k (item d ds) = do
+abbrev pub steps_after : Read Step → ℕ → Items → Outcome (Read Step)
+steps_after so_far k no_items = Ok so_far
+steps_after so_far k (item d ds) = do
   table ← table_of (codes "do") d
-  step ← step_in k table so_far.known u
-  steps_after u (read (with_step so_far.known step) (so_far.done ++ step ∷ [])) (k + 1) ds
+  step ← step_in k table so_far.known
+  steps_after (read (with_step so_far.known step) (so_far.done ++ step ∷ [])) (k + 1) ds

@@ -7,10 +7,7 @@ use Rattle.model_defs.specs.declared.job.Job.{Job}
 use Rattle.model_defs.specs.Limits.{most_ranks, most_maps, most_given, most_steps}
 use Rattle.job_text.specs.declared.fault.JobFault.TheVariants.{NotToml, Limit}
 use Rattle.job_text.specs.declared.place.Place.TheVariants as place
-use Rattle.job_text.specs.declared.words.Form.{Form}
 use Rattle.job_text.specs.declared.words.Form.TheVariants as form
-use Rattle.job_text.specs.declared.words.Unbuilt.{Unbuilt}
-use Rattle.job_text.specs.declared.words.TheConstants.{TODAY}
 use Rattle.job_text.specs.Outcomes.{Outcome, ◌>>=◌, or_fault}
 use Rattle.job_text.specs.Names.{Text}
 use Rattle.job_text.specs.Keys.{only_keys, number_at}
@@ -21,9 +18,6 @@ use Rattle.job_text.specs.Maps.{maps_after}
 use Rattle.job_text.specs.Given.{vectors_after, parts_after, matrices_after}
 use Rattle.job_text.specs.Steps.{steps_after}
 
-abbrev pub top_form : Unbuilt → Form
-top_form u = if u.matrix then form.TopWithoutMatrix else form.Top
-
 -- the arrays of the top table
 pub record Arrays : Type 0 where
   pub ranks : ℕ
@@ -33,25 +27,25 @@ pub record Arrays : Type 0 where
   pub matrices : Items
   pub steps : Items
 
-abbrev pub job_of_arrays : Unbuilt → Arrays → Outcome Job
-job_of_arrays u a = do
-  maps ← maps_after u (read (no_names a.ranks) []) 0 a.maps
+abbrev pub job_of_arrays : Arrays → Outcome Job
+job_of_arrays a = do
+  maps ← maps_after (read (no_names a.ranks) []) 0 a.maps
   vectors ← vectors_after (read maps.known []) 0 a.vectors
   parts ← parts_after (read vectors.known []) 0 a.parts
   matrices ← matrices_after (read parts.known []) 0 a.matrices
-  steps ← steps_after u (read matrices.known []) 0 a.steps
+  steps ← steps_after (read matrices.known []) 0 a.steps
   Ok (record { ranks = a.ranks; maps = maps.done; vectors = vectors.done; parts = parts.done; matrices = matrices.done; steps = steps.done })
 
-abbrev pub job_in : Unbuilt → Members → Outcome Job
-job_in u top = do
-  only ← only_keys place.Top (top_form u) top
+abbrev pub job_in : Members → Outcome Job
+job_in top = do
+  only ← only_keys place.Top form.Top top
   ranks ← number_at place.Top top (codes "ranks") 1 most_ranks
   maps ← tables_at top (codes "map") 0 most_maps
   vectors ← tables_at top (codes "vector") 0 most_given
   parts ← tables_at top (codes "parts") (item_count vectors) most_given
   matrices ← tables_at top (codes "matrix") (item_count vectors + item_count parts) most_given
   steps ← tables_at top (codes "do") 0 most_steps
-  job_of_arrays u (record { ranks = ranks; maps = maps; vectors = vectors; parts = parts; matrices = matrices; steps = steps })
+  job_of_arrays (record { ranks = ranks; maps = maps; vectors = vectors; parts = parts; matrices = matrices; steps = steps })
 
 -- the table of a document, where the text is one
 abbrev pub document_of : Text → Outcome Members
@@ -61,10 +55,6 @@ document_of text = if is_utf8 text then or_fault NotToml (parse_document text) e
 abbrev pub most_bytes : ℕ
 most_bytes = 1048576
 
--- the job of a text, where these words are not built yet
-abbrev pub job_by : Unbuilt → Text → Outcome Job
-job_by u text = if nat_le (length text) most_bytes then document_of text >>= job_in u else Err (Limit (codes "job"))
-
--- the job of a text, with the words that are built by now
+-- the job of a text
 abbrev pub job_of : Text → Outcome Job
-job_of text = job_by TODAY text
+job_of text = if nat_le (length text) most_bytes then document_of text >>= job_in else Err (Limit (codes "job"))

@@ -5,7 +5,7 @@
 //! short file a subject: `Names` and `Words` (keys and words), `Keys` and `Lists` (the value of a key), `Tables` (arrays of
 //! tables), `Maps`, `Given` and `Steps` (the tables of each array), `Statements` (what operands must be), `Whole` (the job
 //! of a text). A text gives exactly the job that this definition finds, and each refusal comes exactly where it is the first by
-//! the order of tests; want of memory alone has no cause. Which words are built is one list, `TODAY`.
+//! the order of tests; want of memory alone has no cause.
 //!
 //! It stands on `toml`, on `map_core` for the layouts of maps, and on `model_defs` for jobs, shapes and limits.
 //!
@@ -35,5 +35,4 @@ mod whole;
 mod words;
 
 pub use fault::JobFault;
-pub use whole::{read_job, read_job_by};
-pub use words::{ALL, TODAY, Unbuilt};
+pub use whole::read_job;

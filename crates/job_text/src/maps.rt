@@ -14,7 +14,7 @@ use crate::known::Known;
 use crate::lists::{counts_of, index_lists_of};
 use crate::place::Place;
 use crate::value::{new_name_at, number_at, only_keys, required, text_of};
-use crate::words::{Form, MapKind, Unbuilt, kind_named};
+use crate::words::{Form, MapKind, kind_named};
 use map_core::{Gid, Layout, MapFault};
 use model_defs::{ListOf, MapForm, MapSpec, Text};
 use std::alloc::{AllocError, Global};
@@ -28,32 +28,22 @@ struct ReadMap {
 }
 
 /// The kind of a map, from its word.
-fn kind_of(
-    alloc: Global,
-    unbuilt: Unbuilt,
-    place: Place,
-    value: &Value,
-) -> Result<MapKind, JobFault>
-    ensures { Gives result (kind_of unbuilt place (view value.now)) }
+fn kind_of(alloc: Global, place: Place, value: &Value) -> Result<MapKind, JobFault>
+    ensures { Gives result (kind_of place (view value.now)) }
 {
     let word = text_of(alloc, place, "kind", value)?;
-    match kind_named(unbuilt, word) {
+    match kind_named(word) {
         Some(kind) => Ok(kind),
         None => Err(wrong_kind(alloc, place, "kind")),
     }
 }
 
 /// The kind of a map.
-fn kind_at(
-    alloc: Global,
-    unbuilt: Unbuilt,
-    place: Place,
-    table: &Table,
-) -> Result<MapKind, JobFault>
-    ensures { Gives result (kind_at unbuilt place (table_view table.now)) }
+fn kind_at(alloc: Global, place: Place, table: &Table) -> Result<MapKind, JobFault>
+    ensures { Gives result (kind_at place (table_view table.now)) }
 {
     let value = required(alloc, place, table, "kind")?;
-    kind_of(alloc, unbuilt, place, value)
+    kind_of(alloc, place, value)
 }
 
 /// A uniform map.
@@ -236,17 +226,11 @@ fn map_of_kind(
 }
 
 /// The map of a table.
-fn map_in(
-    alloc: Global,
-    unbuilt: Unbuilt,
-    place: Place,
-    table: &Table,
-    known: &Known,
-) -> Result<ReadMap, JobFault>
-    ensures spec { GivesAs (λ r. r.spec) result (map_in unbuilt place (table_view table.now) known.now) }
+fn map_in(alloc: Global, place: Place, table: &Table, known: &Known) -> Result<ReadMap, JobFault>
+    ensures spec { GivesAs (λ r. r.spec) result (map_in place (table_view table.now) known.now) }
     ensures layout { IfOk result (λ r. r.layout ≡ layout_by known.now.ranks r.spec) }
 {
-    let kind = kind_at(alloc, unbuilt, place, table)?;
+    let kind = kind_at(alloc, place, table)?;
     map_of_kind(alloc, place, table, known, kind)
 }
 
@@ -265,16 +249,15 @@ fn add_map(alloc: Global, known: &mut Known, map: ReadMap) -> Result<MapSpec, Jo
 /// The maps of the tables, which are named in their order.
 pub fn read_maps(
     alloc: Global,
-    unbuilt: Unbuilt,
     tables: &[Value],
     known: &mut Known,
 ) -> Result<Vec<MapSpec>, JobFault>
-    ensures { GivesAs (λ specs. read known.new specs.items) result (maps_after unbuilt (read known.old []) 0 (items_view tables.now)) }
+    ensures { GivesAs (λ specs. read known.new specs.items) result (maps_after (read known.old []) 0 (items_view tables.now)) }
 {
     let mut specs = Vec::with_capacity(alloc, tables.len())?;
     for (k, item) in tables.iter().enumerate() {
         let table = table_of(alloc, "map", item)?;
-        let map = map_in(alloc, unbuilt, Place::Map(k), table, known)?;
+        let map = map_in(alloc, Place::Map(k), table, known)?;
         let spec = add_map(alloc, known, map)?;
         specs.push(spec)?;
     }

@@ -21,29 +21,29 @@ use crate::value::{
     flag_or, integer_at, integer_or, known_value_at, map_at, mode_at, mode_or, new_name_at,
     only_keys, required, text_of, value_or_none,
 };
-use crate::words::{Form, Op, Unbuilt, op_named};
+use crate::words::{Form, Op, op_named};
 use combine_modes::Mode;
 use model_defs::{Step, Text};
 use std::alloc::Global;
 use toml::{Table, Value};
 
 /// What a statement does, from its word.
-fn op_of(alloc: Global, unbuilt: Unbuilt, place: Place, value: &Value) -> Result<Op, JobFault>
-    ensures { Gives result (op_of unbuilt place (view value.now)) }
+fn op_of(alloc: Global, place: Place, value: &Value) -> Result<Op, JobFault>
+    ensures { Gives result (op_of place (view value.now)) }
 {
     let word = text_of(alloc, place, "op", value)?;
-    match op_named(unbuilt, word) {
+    match op_named(word) {
         Some(op) => Ok(op),
         None => Err(wrong_kind(alloc, place, "op")),
     }
 }
 
 /// What a statement does.
-fn op_at(alloc: Global, unbuilt: Unbuilt, place: Place, table: &Table) -> Result<Op, JobFault>
-    ensures { Gives result (op_at unbuilt place (table_view table.now)) }
+fn op_at(alloc: Global, place: Place, table: &Table) -> Result<Op, JobFault>
+    ensures { Gives result (op_at place (table_view table.now)) }
 {
     let value = required(alloc, place, table, "op")?;
-    op_of(alloc, unbuilt, place, value)
+    op_of(alloc, place, value)
 }
 
 fn move_in(alloc: Global, k: u32, table: &Table, known: &Known) -> Result<Step, JobFault>
@@ -257,16 +257,10 @@ fn step_by(alloc: Global, k: u32, table: &Table, known: &Known, op: Op) -> Resul
 }
 
 /// The statement of a table.
-fn step_in(
-    alloc: Global,
-    unbuilt: Unbuilt,
-    k: u32,
-    table: &Table,
-    known: &Known,
-) -> Result<Step, JobFault>
-    ensures { Gives result (step_in k (table_view table.now) known.now unbuilt) }
+fn step_in(alloc: Global, k: u32, table: &Table, known: &Known) -> Result<Step, JobFault>
+    ensures { Gives result (step_in k (table_view table.now) known.now) }
 {
-    let op = op_at(alloc, unbuilt, Place::Do(k as usize), table)?;
+    let op = op_at(alloc, Place::Do(k as usize), table)?;
     step_by(alloc, k, table, known, op)
 }
 
@@ -370,19 +364,14 @@ fn add_step(alloc: Global, known: &mut Known, step: &Step) -> Result<(), JobFaul
 }
 
 /// The statements of the tables, whose values are named in their order. There are fewer than 2^32.
-pub fn read_steps(
-    alloc: Global,
-    unbuilt: Unbuilt,
-    tables: &[Value],
-    known: &mut Known,
-) -> Result<Vec<Step>, JobFault>
+pub fn read_steps(alloc: Global, tables: &[Value], known: &mut Known) -> Result<Vec<Step>, JobFault>
     requires { length tables.now < 4294967296 }
-    ensures { GivesAs (λ steps. read known.new steps.items) result (steps_after unbuilt (read known.old []) 0 (items_view tables.now)) }
+    ensures { GivesAs (λ steps. read known.new steps.items) result (steps_after (read known.old []) 0 (items_view tables.now)) }
 {
     let mut steps = Vec::with_capacity(alloc, tables.len())?;
     for (k, item) in tables.iter().enumerate() {
         let table = table_of(alloc, "do", item)?;
-        let step = step_in(alloc, unbuilt, k as u32, table, known)?;
+        let step = step_in(alloc, k as u32, table, known)?;
         add_step(alloc, known, &step)?;
         steps.push(step)?;
     }

@@ -2,7 +2,7 @@ mod keys;
 mod operands;
 mod transfers;
 
-use crate::{ALL, JobFault, TODAY, Unbuilt, read_job, read_job_by};
+use crate::{JobFault, read_job};
 use std::alloc::{AllocError, Global};
 use std::process::Abort;
 use std::test::Fail;
@@ -37,49 +37,38 @@ fn of_statement(alloc: Global, fault: &JobFault) -> Result<String, AllocError> {
 }
 
 /// What is answered of a text: `Ok`, or its fault.
-fn answer(alloc: Global, unbuilt: Unbuilt, text: &[u8]) -> Result<String, AllocError> {
-    match read_job_by(alloc, unbuilt, text) {
+fn answer(alloc: Global, text: &[u8]) -> Result<String, AllocError> {
+    match read_job(alloc, text) {
         Ok(_) => String::from_str(alloc, "Ok"),
         Err(fault) => shown(alloc, &fault),
     }
 }
 
-/// Where all words are built, the text has this answer.
+/// The text has this answer.
 fn is(rt: &impl Abort, alloc: Global, text: &str, wanted: &str) -> Result<(), Fail> {
-    let found = answer(alloc, ALL, text.as_bytes())?;
+    let found = answer(alloc, text.as_bytes())?;
     assert_eq!(rt; found.as_str(), wanted);
     Ok(())
 }
 
-/// Each text after the head has the answer that stands beside it, where these words are built.
-fn each_after(
+/// Each text after the head has the answer that stands beside it.
+pub fn each_after(
     rt: &impl Abort,
     alloc: Global,
-    unbuilt: Unbuilt,
     head: &str,
     cases: &[(&str, &str)],
 ) -> Result<(), Fail> {
     for (text, wanted) in cases {
         let whole = format!(in alloc; "{head}{text}")?;
-        let found = answer(alloc, unbuilt, whole.as_bytes())?;
+        let found = answer(alloc, whole.as_bytes())?;
         assert_eq!(rt; found.as_str(), *wanted, "after {text}");
     }
     Ok(())
 }
 
-/// The same where all words are built.
-pub fn all_after(
-    rt: &impl Abort,
-    alloc: Global,
-    head: &str,
-    cases: &[(&str, &str)],
-) -> Result<(), Fail> {
-    each_after(rt, alloc, ALL, head, cases)
-}
-
-/// Today all words are built but those of statements that make a matrix of other places.
+/// Kinds and statements are known by their words.
 #[test]
-fn words_of_today(rt: HostRuntime) -> Result<(), Fail> {
+fn each_word(rt: HostRuntime) -> Result<(), Fail> {
     let alloc = rt.alloc();
     let cases = [
         ("[[matrix]]\nkind = \"split\"", "Missing matrix.0.name"),
@@ -92,12 +81,12 @@ fn words_of_today(rt: HostRuntime) -> Result<(), Fail> {
         ("[[do]]\nop = \"scale\"", "Missing do.0.name"),
         ("[[do]]\nop = \"print\"", "Missing do.0.value"),
         ("[[do]]\nop = \"apply\"", "Missing do.0.name"),
-        ("[[do]]\nop = \"transpose\"", "WrongKind do.0.op"),
-        ("[[do]]\nop = \"multiply\"", "WrongKind do.0.op"),
-        ("[[do]]\nop = \"add\"", "WrongKind do.0.op"),
-        ("[[do]]\nop = \"assemble\"", "WrongKind do.0.op"),
+        ("[[do]]\nop = \"transpose\"", "Missing do.0.name"),
+        ("[[do]]\nop = \"multiply\"", "Missing do.0.name"),
+        ("[[do]]\nop = \"add\"", "Missing do.0.name"),
+        ("[[do]]\nop = \"assemble\"", "Missing do.0.name"),
     ];
-    each_after(&rt, alloc, TODAY, "ranks = 2\n", &cases)?;
+    each_after(&rt, alloc, "ranks = 2\n", &cases)?;
     match read_job(alloc, b"ranks = 2") {
         Ok(job) => assert_eq!(rt; job.ranks, 2),
         Err(fault) => assert_eq!(rt; shown(alloc, &fault)?.as_str(), "Ok"),
@@ -122,10 +111,10 @@ fn lengths(rt: HostRuntime) -> Result<(), Fail> {
     let alloc = rt.alloc();
     let text = long_text(alloc, 1048576)?;
     assert_eq!(rt; text.len(), 1048576);
-    assert_eq!(rt; answer(alloc, ALL, &text)?.as_str(), "Ok");
+    assert_eq!(rt; answer(alloc, &text)?.as_str(), "Ok");
     let text = long_text(alloc, 1048577)?;
     assert_eq!(rt; text.len(), 1048577);
-    assert_eq!(rt; answer(alloc, ALL, &text)?.as_str(), "Limit job");
+    assert_eq!(rt; answer(alloc, &text)?.as_str(), "Limit job");
     Ok(())
 }
 

@@ -1,7 +1,7 @@
 //! The job of a text.
 ghost use Rattle.std.specs.Prelude.{◌≡◌, ◌≤◌, ◌<◌, length};
 ghost use Rattle.job_text.specs.Outcomes.{Gives, GivesAs};
-ghost use Rattle.job_text.specs.Whole.{document_of, job_by, job_of, job_of, job_in, job_of_arrays, top_form};
+ghost use Rattle.job_text.specs.Whole.{document_of, job_in, job_of, job_of_arrays};
 ghost use Rattle.toml.specs.View.{items_view, table_view};
 
 use crate::JobFault;
@@ -12,7 +12,7 @@ use crate::maps::read_maps;
 use crate::place::Place;
 use crate::steps::read_steps;
 use crate::value::{number_at, only_keys};
-use crate::words::{Form, TODAY, Unbuilt};
+use crate::words::Form;
 use model_defs::{Job, ListOf, Text};
 use std::alloc::Global;
 use toml::{Table, Value};
@@ -20,21 +20,9 @@ use toml::{Table, Value};
 /// The most bytes of a job text.
 const MOST_BYTES: usize = 1048576;
 
-/// The form of the top table.
-fn top_form(unbuilt: Unbuilt) -> Form
-    ensures { result ≡ top_form unbuilt }
-{
-    if unbuilt.matrix {
-        Form::TopWithoutMatrix
-    } else {
-        Form::Top
-    }
-}
-
 /// The job of the arrays, whose tables are read in their order.
 fn job_of_arrays(
     alloc: Global,
-    unbuilt: Unbuilt,
     ranks: u32,
     maps: &[Value],
     vectors: &[Value],
@@ -45,14 +33,14 @@ fn job_of_arrays(
     requires some_rank { 1 ≤ ranks }
     requires ranks_limit { ranks ≤ 32 }
     requires few_steps { length steps.now < 4294967296 }
-    ensures { Gives result (job_of_arrays unbuilt (record { ranks = ranks; maps = items_view maps.now; vectors = items_view vectors.now; parts = items_view parts.now; matrices = items_view matrices.now; steps = items_view steps.now })) }
+    ensures { Gives result (job_of_arrays (record { ranks = ranks; maps = items_view maps.now; vectors = items_view vectors.now; parts = items_view parts.now; matrices = items_view matrices.now; steps = items_view steps.now })) }
 {
     let mut known = Known::new(alloc, ranks);
-    let maps = read_maps(alloc, unbuilt, maps, &mut known)?;
+    let maps = read_maps(alloc, maps, &mut known)?;
     let vectors = read_vectors(alloc, vectors, &mut known)?;
     let parts = read_parts(alloc, parts, &mut known)?;
     let matrices = read_matrices(alloc, matrices, &mut known)?;
-    let steps = read_steps(alloc, unbuilt, steps, &mut known)?;
+    let steps = read_steps(alloc, steps, &mut known)?;
     Ok(Job {
         ranks,
         maps: ListOf::new(maps),
@@ -64,26 +52,17 @@ fn job_of_arrays(
 }
 
 /// The job of the top table.
-fn job_in(alloc: Global, unbuilt: Unbuilt, top: &Table) -> Result<Job, JobFault>
-    ensures { Gives result (job_in unbuilt (table_view top.now)) }
+fn job_in(alloc: Global, top: &Table) -> Result<Job, JobFault>
+    ensures { Gives result (job_in (table_view top.now)) }
 {
-    only_keys(alloc, Place::Top, top_form(unbuilt), top)?;
+    only_keys(alloc, Place::Top, Form::Top, top)?;
     let ranks = number_at(alloc, Place::Top, top, "ranks", 1, 32)?;
     let maps = tables_at(alloc, top, "map", 0, 64)?;
     let vectors = tables_at(alloc, top, "vector", 0, 64)?;
     let parts = tables_at(alloc, top, "parts", count(vectors), 64)?;
     let matrices = tables_at(alloc, top, "matrix", count(vectors) + count(parts), 64)?;
     let steps = tables_at(alloc, top, "do", 0, 200)?;
-    job_of_arrays(
-        alloc,
-        unbuilt,
-        ranks as u32,
-        maps,
-        vectors,
-        parts,
-        matrices,
-        steps,
-    )
+    job_of_arrays(alloc, ranks as u32, maps, vectors, parts, matrices, steps)
 }
 
 /// The table of a document.
@@ -102,19 +81,6 @@ fn document_of(alloc: Global, bytes: &[u8]) -> Result<Table, JobFault>
     }
 }
 
-/// The job of a text, at most 1,048,576 bytes of TOML, where these words are not built yet: they are refused as unknown ones
-/// are. Otherwise as `read_job`.
-pub fn read_job_by(alloc: Global, unbuilt: Unbuilt, bytes: &[u8]) -> Result<Job, JobFault>
-    ensures { Gives result (job_by unbuilt bytes.now) }
-{
-    if bytes.len() > MOST_BYTES {
-        let key = Text::new(alloc, "job")?;
-        return Err(JobFault::Limit { key });
-    }
-    let top = document_of(alloc, bytes)?;
-    job_in(alloc, unbuilt, &top)
-}
-
 /// The job of a text, at most 1,048,576 bytes of TOML.
 ///
 /// A map is spoken of by its number in `maps`, a value by its number among all values: the vectors, the parts, the matrices,
@@ -126,5 +92,10 @@ pub fn read_job_by(alloc: Global, unbuilt: Unbuilt, bytes: &[u8]) -> Result<Job,
 pub fn read_job(alloc: Global, bytes: &[u8]) -> Result<Job, JobFault>
     ensures { Gives result (job_of bytes.now) }
 {
-    read_job_by(alloc, TODAY, bytes)
+    if bytes.len() > MOST_BYTES {
+        let key = Text::new(alloc, "job")?;
+        return Err(JobFault::Limit { key });
+    }
+    let top = document_of(alloc, bytes)?;
+    job_in(alloc, &top)
 }

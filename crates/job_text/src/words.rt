@@ -35,7 +35,6 @@ pub enum Op {
 #[derive(Clone, Copy, Debug)]
 pub enum Form {
     Top,
-    TopWithoutMatrix,
     Map(MapKind),
     OfFile,
     OfFiles,
@@ -44,100 +43,47 @@ pub enum Form {
     Do(Op),
 }
 
-/// The words of the job text that are not built yet: where one is `true`, it is refused as an unknown one. They are the
-/// array `matrix` of the top table, kinds of maps, and what statements do.
-#[derive(Clone, Copy, Debug)]
-pub struct Unbuilt {
-    pub matrix: bool,
-    pub blocks: bool,
-    pub cyclic: bool,
-    pub lists: bool,
-    pub moves: bool,
-    pub imports: bool,
-    pub exports: bool,
-    pub spreads: bool,
-    pub applies: bool,
-    pub transposes: bool,
-    pub multiplies: bool,
-    pub adds: bool,
-    pub assembles: bool,
-}
-
-/// What is not built yet. A word is built once it stands as `false` here, and nothing else speaks of it.
-pub const TODAY: Unbuilt = Unbuilt {
-    matrix: false,
-    blocks: false,
-    cyclic: false,
-    lists: false,
-    moves: false,
-    imports: false,
-    exports: false,
-    spreads: false,
-    applies: false,
-    transposes: true,
-    multiplies: true,
-    adds: true,
-    assembles: true,
-};
-
-/// Every word is built.
-pub const ALL: Unbuilt = Unbuilt {
-    matrix: false,
-    blocks: false,
-    cyclic: false,
-    lists: false,
-    moves: false,
-    imports: false,
-    exports: false,
-    spreads: false,
-    applies: false,
-    transposes: false,
-    multiplies: false,
-    adds: false,
-    assembles: false,
-};
-
-/// The kind of a map of this name, where it is built.
-pub fn kind_named(unbuilt: Unbuilt, word: &str) -> Option<MapKind>
-    ensures { result ≡ kind_named unbuilt word.now }
+/// The kind of a map of this name.
+pub fn kind_named(word: &str) -> Option<MapKind>
+    ensures { result ≡ kind_named word.now }
 {
     if word == "uniform" {
         return Some(MapKind::Uniform);
     }
-    if word == "blocks" && !unbuilt.blocks {
+    if word == "blocks" {
         return Some(MapKind::Blocks);
     }
-    if word == "cyclic" && !unbuilt.cyclic {
+    if word == "cyclic" {
         return Some(MapKind::Cyclic);
     }
-    if word == "lists" && !unbuilt.lists {
+    if word == "lists" {
         return Some(MapKind::Lists);
     }
     None
 }
 
-/// A statement of this name that moves, copies or combines cells, where it is built.
-fn transfer_named(unbuilt: Unbuilt, word: &str) -> Option<Op>
-    ensures { result ≡ transfer_named unbuilt word.now }
+/// A statement of this name that moves, copies or combines cells.
+fn transfer_named(word: &str) -> Option<Op>
+    ensures { result ≡ transfer_named word.now }
 {
-    if word == "move" && !unbuilt.moves {
+    if word == "move" {
         return Some(Op::Move);
     }
-    if word == "import" && !unbuilt.imports {
+    if word == "import" {
         return Some(Op::Import);
     }
-    if word == "export" && !unbuilt.exports {
+    if word == "export" {
         return Some(Op::Export);
     }
-    if word == "spread" && !unbuilt.spreads {
+    if word == "spread" {
         return Some(Op::Spread);
     }
     None
 }
 
-/// A statement of this name that makes a value of others cell by cell, or prints one, where it is built.
-fn cellwise_named(unbuilt: Unbuilt, word: &str) -> Option<Op>
-    ensures { result ≡ cellwise_named unbuilt word.now }
+/// A statement of this name that makes a value of others cell by cell, or prints one.
+fn cellwise_named(word: &str) -> Option<Op>
+    ensures { result ≡ cellwise_named word.now }
 {
     if word == "update" {
         return Some(Op::Update);
@@ -145,7 +91,7 @@ fn cellwise_named(unbuilt: Unbuilt, word: &str) -> Option<Op>
     if word == "scale" {
         return Some(Op::Scale);
     }
-    if word == "add" && !unbuilt.adds {
+    if word == "add" {
         return Some(Op::Add);
     }
     if word == "print" {
@@ -154,36 +100,36 @@ fn cellwise_named(unbuilt: Unbuilt, word: &str) -> Option<Op>
     None
 }
 
-/// A statement of this name that works with a matrix, where it is built.
-fn matrix_step_named(unbuilt: Unbuilt, word: &str) -> Option<Op>
-    ensures { result ≡ matrix_step_named unbuilt word.now }
+/// A statement of this name that works with a matrix.
+fn matrix_step_named(word: &str) -> Option<Op>
+    ensures { result ≡ matrix_step_named word.now }
 {
-    if word == "apply" && !unbuilt.applies {
+    if word == "apply" {
         return Some(Op::Apply);
     }
-    if word == "transpose" && !unbuilt.transposes {
+    if word == "transpose" {
         return Some(Op::Transpose);
     }
-    if word == "multiply" && !unbuilt.multiplies {
+    if word == "multiply" {
         return Some(Op::Multiply);
     }
-    if word == "assemble" && !unbuilt.assembles {
+    if word == "assemble" {
         return Some(Op::Assemble);
     }
     None
 }
 
-/// What a statement of this name does, where it is built.
-pub fn op_named(unbuilt: Unbuilt, word: &str) -> Option<Op>
-    ensures { result ≡ op_named unbuilt word.now }
+/// What a statement of this name does.
+pub fn op_named(word: &str) -> Option<Op>
+    ensures { result ≡ op_named word.now }
 {
-    if let Some(op) = transfer_named(unbuilt, word) {
+    if let Some(op) = transfer_named(word) {
         return Some(op);
     }
-    if let Some(op) = cellwise_named(unbuilt, word) {
+    if let Some(op) = cellwise_named(word) {
         return Some(op);
     }
-    matrix_step_named(unbuilt, word)
+    matrix_step_named(word)
 }
 
 /// The combine mode of this name.
@@ -290,7 +236,6 @@ pub fn is_key(form: Form, key: &str) -> bool
 {
     match form {
         Form::Top => key == "ranks" || is_one_of_5(key, "map", "vector", "parts", "matrix", "do"),
-        Form::TopWithoutMatrix => is_one_of_5(key, "ranks", "map", "vector", "parts", "do"),
         Form::Map(kind) => key == "kind" || is_map_key(kind, key),
         Form::OfFile => is_one_of_4(key, "name", "map", "columns", "file"),
         Form::OfFiles => is_one_of_4(key, "name", "map", "columns", "files"),

@@ -11,7 +11,6 @@ use Rattle.model_defs.specs.declared.job.MapSpec.{MapSpec}
 use Rattle.model_defs.specs.Makers.{Maker, makers, maker_name}
 use Rattle.model_defs.specs.Given.{maker_files}
 use Rattle.model_defs.specs.Naming.{is_name, names_of_job, AreApart, IsNamed}
-use Rattle.job_text.specs.declared.words.Unbuilt.{Unbuilt}
 use Rattle.job_text.specs.declared.known.KnownMap.{KnownMap}
 use Rattle.job_text.specs.Names.{Text}
 use Rattle.job_text.specs.Known.{Known, no_names, place_from, is_taken, with_spec, with_maker}
@@ -115,7 +114,7 @@ files-of (m ∷ ms) known h = All-append IsFilled (maker_files m) (flat_map make
 
 -- ---- of a job
 
-module _ (u : Unbuilt) (job : Job) (h : IsOfTables u job) where
+module _ (job : Job) (h : IsOfTables job) where
   map-names-are : map_names (after_maps job) ≡ map (λ s. s.name) job.maps
   map-names-are = ap (map (λ (m : KnownMap). m.name)) (maps-are job) ∙ again job.maps
     where
@@ -129,10 +128,10 @@ module _ (u : Unbuilt) (job : Job) (h : IsOfTables u job) where
   all-names : AreNames (names_of_job job)
   all-names =
       subst AreNames (ap (λ ts. ts ++ map maker_name (makers job)) first-names)
-      (names-of-values (makers job) (after_maps job) (subst AreNames (sym first-names) (names-of-maps job.maps (no_names job.ranks) none h.maps)) (all-made job u h))
+      (names-of-values (makers job) (after_maps job) (subst AreNames (sym first-names) (names-of-maps job.maps (no_names job.ranks) none h.maps)) (all-made job h))
     where
       none : AreNames []
       none = record { names = All-nil (λ t. is_name t ≡ true); apart = tt }
 
   pub job-named : IsNamed job
-  job-named = record { names = all-names.names; apart = are-apart (names_of_job job) all-names.apart; files = files-of (makers job) (after_maps job) (all-made job u h) }
+  job-named = record { names = all-names.names; apart = are-apart (names_of_job job) all-names.apart; files = files-of (makers job) (after_maps job) (all-made job h) }

@@ -12,12 +12,12 @@ use Rattle.model_defs.specs.ShapeLists.{at_list, next_shape, shapes_from}
 use Rattle.model_defs.specs.Valid.{IsValidMaker, IsPrintable, ArePrintable, given_count}
 use Rattle.model_defs.proofs.ShapeLists.{shapes-are}
 use Rattle.job_text.specs.declared.known.KnownValue.{KnownValue}
-use Rattle.job_text.specs.declared.words.Unbuilt.{Unbuilt}
 use Rattle.job_text.specs.Known.{Known, no_value, shape_at, with_maker, with_step}
 use Rattle.job_validity.proofs.Seen.{IsMapped, IsSeen}
 use Rattle.job_validity.proofs.KnownMaps.{mapped-first, mapped-next, no-values}
 use Rattle.job_validity.proofs.MakersRead.{AreMade, step_makers, step-printable, given_makers, after-given, all-made}
-use Rattle.job_validity.proofs.Traces.{all_next, AreFor, IsReadStep}
+use Rattle.job_validity.proofs.StepFacts.{IsStepFor}
+use Rattle.job_validity.proofs.Traces.{all_next, AreFor}
 use Rattle.job_validity.proofs.Reading.{after_maps, after_matrices, IsOfTables}
 
 abbrev shapes_of : Known → List Shape
@@ -81,13 +81,13 @@ module _ (job : Job) where
       same : length (with_maker known m).values + k ≡ length known.values + suc k
       same = let n = longer known m in omega arith
 
-  printable : (u : Unbuilt) (steps : List Step) (known : Known) (n : ℕ) → n ≡ length known.values → IsOnWay known (step_makers steps) → AreFor with_step (IsReadStep u) known steps → ArePrintable job n steps
-  printable u [] known n e way h = tt
-  printable u (s ∷ ss) known n e way h =
-      (subst (λ k. IsPrintable job k s) (sym e) (step-printable job known s h.0.made (seen known (step_makers (s ∷ ss)) way)), by (gives_value s) (printable u ss) way h.1)
+  printable : (steps : List Step) (known : Known) (n : ℕ) → n ≡ length known.values → IsOnWay known (step_makers steps) → AreFor with_step IsStepFor known steps → ArePrintable job n steps
+  printable [] known n e way h = tt
+  printable (s ∷ ss) known n e way h =
+      (subst (λ k. IsPrintable job k s) (sym e) (step-printable job known s h.0 (seen known (step_makers (s ∷ ss)) way)), by (gives_value s) (printable ss) way h.1)
     where
-      by : (b : Bool) → ((k : Known) (m : ℕ) → m ≡ length k.values → IsOnWay k (step_makers ss) → AreFor with_step (IsReadStep u) k ss → ArePrintable job m ss)
-          → IsOnWay known (map Made (cond b (s ∷ filter gives_value ss) (filter gives_value ss))) → AreFor with_step (IsReadStep u) (cond b (with_maker known (Made s)) known) ss
+      by : (b : Bool) → ((k : Known) (m : ℕ) → m ≡ length k.values → IsOnWay k (step_makers ss) → AreFor with_step IsStepFor k ss → ArePrintable job m ss)
+          → IsOnWay known (map Made (cond b (s ∷ filter gives_value ss) (filter gives_value ss))) → AreFor with_step IsStepFor (cond b (with_maker known (Made s)) known) ss
           → ArePrintable job (cond b (n + 1) n) ss
       by true rest w g = rest (with_maker known (Made s)) (n + 1) (let l = longer known (Made s) in omega arith) (next known (Made s) (step_makers ss) w) g
       by false rest w g = rest known n e w g
@@ -107,10 +107,10 @@ module _ (job : Job) where
   count-after [] known = omega arith
   count-after (x ∷ xs) known = let n = longer known x in let rest = count-after xs (with_maker known x) in omega arith
 
-  pub makers-valid : (u : Unbuilt) → IsOfTables u job → (k : ℕ) (d : Maker) → k < length (makers job) → IsValidMaker job k (get_or (makers job) k d)
-  makers-valid u h k d l =
+  pub makers-valid : IsOfTables job → (k : ℕ) (d : Maker) → k < length (makers job) → IsValidMaker job k (get_or (makers job) k d)
+  makers-valid h k d l =
       subst (λ n. IsValidMaker job n (get_or (makers job) k d)) (let none = ap length (no-values job) in omega arith)
-      (valid-makers (makers job) (after_maps job) first (all-made job u h) k d l)
+      (valid-makers (makers job) (after_maps job) first (all-made job h) k d l)
 
   given-many : length (given_makers job) ≡ given_count job
   given-many =
@@ -120,9 +120,9 @@ module _ (job : Job) where
       sum-of : {a b c d e f g : ℕ} → d ≡ e + f → e ≡ a → f ≡ b → g ≡ c → d + g ≡ a + b + c
       sum-of h i j k = omega arith
 
-  pub steps-printable : (u : Unbuilt) → IsOfTables u job → ArePrintable job (given_count job) job.steps
-  steps-printable u h =
-      printable u job.steps (after_matrices job) (given_count job) many
+  pub steps-printable : IsOfTables job → ArePrintable job (given_count job) job.steps
+  steps-printable h =
+      printable job.steps (after_matrices job) (given_count job) many
       (subst (λ k. IsOnWay k (step_makers job.steps)) (sym (after-given job)) (after (given_makers job) (step_makers job.steps) (after_maps job) first)) h.steps
     where
       many : given_count job ≡ length (after_matrices job).values

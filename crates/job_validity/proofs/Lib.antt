@@ -6,7 +6,6 @@ pub mod Seen
 pub mod GivenFacts
 pub mod StatementFacts
 pub mod StepFacts
-pub mod BuiltSteps
 pub mod Traces
 pub mod Reading
 pub mod KnownMaps

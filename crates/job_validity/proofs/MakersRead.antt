@@ -5,11 +5,10 @@ use Rattle.model_defs.specs.declared.job.Step.{Step}
 use Rattle.model_defs.specs.declared.job.Step.TheVariants as step
 use Rattle.model_defs.specs.Makers.{Maker, GivenVector, GivenParts, GivenMatrix, Made, gives_value, makers}
 use Rattle.model_defs.specs.Valid.{IsPrintable}
-use Rattle.job_text.specs.declared.words.Unbuilt.{Unbuilt}
 use Rattle.job_text.specs.Known.{Known, with_maker, with_step}
 use Rattle.job_validity.proofs.Seen.{IsSeen, IsMakerFor, IsVectorFor, IsPartsFor}
 use Rattle.job_validity.proofs.StepFacts.{IsStepFor}
-use Rattle.job_validity.proofs.Traces.{all_next, AreFor, IsMatrixFor, IsReadStep}
+use Rattle.job_validity.proofs.Traces.{all_next, AreFor, IsMatrixFor}
 use Rattle.job_validity.proofs.Reading.{after_maps, after_vectors, after_parts, after_matrices, IsOfTables}
 
 abbrev pub AreMade : Known → List Maker → Type 0
@@ -67,12 +66,12 @@ step-printable job known (step.Print value) h seen = h job seen
 abbrev pub step_makers : List Step → List Maker
 step_makers steps = map Made (filter gives_value steps)
 
-made-steps : (u : Unbuilt) (steps : List Step) (known : Known) → AreFor with_step (IsReadStep u) known steps → AreMade known (step_makers steps)
-made-steps u [] known h = tt
-made-steps u (s ∷ ss) known h = by (gives_value s) (step-made known s h.0.made) (made-steps u ss) h.1
+made-steps : (steps : List Step) (known : Known) → AreFor with_step IsStepFor known steps → AreMade known (step_makers steps)
+made-steps [] known h = tt
+made-steps (s ∷ ss) known h = by (gives_value s) (step-made known s h.0) (made-steps ss) h.1
   where
-    by : (b : Bool) → (b ≡ true → IsMakerFor known (Made s)) → ((k : Known) → AreFor with_step (IsReadStep u) k ss → AreMade k (step_makers ss))
-        → AreFor with_step (IsReadStep u) (cond b (with_maker known (Made s)) known) ss → AreMade known (map Made (cond b (s ∷ filter gives_value ss) (filter gives_value ss)))
+    by : (b : Bool) → (b ≡ true → IsMakerFor known (Made s)) → ((k : Known) → AreFor with_step IsStepFor k ss → AreMade k (step_makers ss))
+        → AreFor with_step IsStepFor (cond b (with_maker known (Made s)) known) ss → AreMade known (map Made (cond b (s ∷ filter gives_value ss) (filter gives_value ss)))
     by true one rest g = (one refl, rest (with_maker known (Made s)) g)
     by false one rest g = rest known g
 
@@ -101,11 +100,11 @@ module _ (job : Job) where
   pub after-given : after_matrices job ≡ all_next with_maker (after_maps job) given_makers
   after-given = next-map GivenMatrix job.matrices (after_parts job) ∙ ap (λ k. all_next with_maker k matrices) after-parts ∙ sym (next-append (vectors ++ parts) matrices (after_maps job))
 
-  pub all-made : (u : Unbuilt) → IsOfTables u job → AreMade (after_maps job) (makers job)
-  all-made u h =
+  pub all-made : IsOfTables job → AreMade (after_maps job) (makers job)
+  all-made h =
       made-append given_makers (step_makers job.steps) (after_maps job)
       (made-append (vectors ++ parts) matrices (after_maps job)
       (made-append vectors parts (after_maps job) (made-map GivenVector IsVectorFor (λ k x f. f.maker) job.vectors (after_maps job) h.vectors)
       (subst (λ k. AreMade k parts) after-vectors (made-map GivenParts IsPartsFor (λ k x f. f.maker) job.parts (after_vectors job) h.parts)))
       (subst (λ k. AreMade k matrices) after-parts (made-map GivenMatrix IsMatrixFor (λ k x f. f) job.matrices (after_parts job) h.matrices)))
-      (subst (λ k. AreMade k (step_makers job.steps)) after-given (made-steps u job.steps (after_matrices job) h.steps))
+      (subst (λ k. AreMade k (step_makers job.steps)) after-given (made-steps job.steps (after_matrices job) h.steps))

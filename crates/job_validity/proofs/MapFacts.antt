@@ -18,7 +18,6 @@ use Rattle.job_text.specs.declared.place.Place.{Place}
 use Rattle.job_text.specs.declared.words.MapKind.{MapKind}
 use Rattle.job_text.specs.declared.words.MapKind.TheVariants as kind
 use Rattle.job_text.specs.declared.words.Form.TheVariants as form
-use Rattle.job_text.specs.declared.words.Unbuilt.{Unbuilt}
 use Rattle.job_text.specs.Names.{Text}
 use Rattle.job_text.specs.Keys.{required, only_keys, new_name_at}
 use Rattle.job_text.specs.Layouts.{are_distinct, is_sound_list, are_sound_lists}
@@ -91,9 +90,9 @@ module _ (at : Place) (table : Members) (P : ℕ) (name : Text) where
   form-in kind.Cyclic = cyclic-in
   form-in kind.Lists = lists-in
 
-pub map-in : (u : Unbuilt) (at : Place) (table : Members) (known : Known) → Holds (IsMapFor known) (map_in u at table known)
-map-in u at table known =
-    skip (IsMapFor known) (kind_at u at table) _ (λ k. skip (IsMapFor known) (only_keys at (form.Map k) table) _ (λ only.
+pub map-in : (at : Place) (table : Members) (known : Known) → Holds (IsMapFor known) (map_in at table known)
+map-in at table known =
+    skip (IsMapFor known) (kind_at at table) _ (λ k. skip (IsMapFor known) (only_keys at (form.Map k) table) _ (λ only.
     bind (IsNewName known) (IsMapFor known) (new_name_at at table known) _ (new-name at table known) (λ name new.
     weaken (λ spec. (spec.name ≡ name) × IsGoodSpec known.ranks spec) (IsMapFor known) (form_in at table known.ranks name k)
     (λ spec g. record { name = subst (IsNewName known) (sym g.0) new; good = g.1 }) (form-in at table known.ranks name k))))

@@ -39,10 +39,6 @@ pub skip : {A B : Type 0} (Q : B → Type 0) (o : Outcome A) (next : A → Outco
 skip Q (Ok x) next each = each x
 skip Q (Err fault) next each = tt
 
-pub both-hold : {A : Type 0} (P Q : A → Type 0) (o : Outcome A) → Holds P o → Holds Q o → Holds (λ x. P x × Q x) o
-both-hold P Q (Ok x) h g = (h, g)
-both-hold P Q (Err fault) h g = tt
-
 pub always : {A : Type 0} (P : A → Type 0) → ((x : A) → P x) → (o : Outcome A) → Holds P o
 always P each (Ok x) = each x
 always P each (Err fault) = tt

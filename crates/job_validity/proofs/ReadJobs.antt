@@ -1,26 +1,20 @@
--- Each job that is read is valid, and with the words that are built by now it has no other statements.
-use Rattle.std.proofs.Common.{◌≡◌, List, [], ◌∷◌, refl}
+-- Each job that is read is valid.
+use Rattle.std.proofs.Common.{List}
 use Rattle.std.specs.List.{All}
-use Rattle.std.proofs.lemmas.List.Elements.{All-nil, All-cons}
 use Rattle.model_defs.specs.declared.job.Job.{Job}
-use Rattle.model_defs.specs.declared.job.Step.{Step}
 use Rattle.model_defs.specs.Maps.{no_map}
 use Rattle.model_defs.specs.Limits.{IsWithinLimits, IsSmallForm, HasFewCells}
 use Rattle.model_defs.specs.Valid.{IsValid}
-use Rattle.job_text.specs.declared.words.Unbuilt.{Unbuilt}
-use Rattle.job_text.specs.declared.words.TheConstants.{TODAY}
-use Rattle.job_text.specs.Known.{Known, no_names, with_step}
-use Rattle.job_text.specs.Whole.{job_by, job_of}
-use Rattle.value_phases.specs.BuiltJobs.{IsBuiltJob, IsBuiltStep}
-use Rattle.job_validity.specs.Laws.{ReadJobsAreValid, ReadJobsAreBuilt}
+use Rattle.job_text.specs.Known.{no_names}
+use Rattle.job_text.specs.Whole.{job_of}
+use Rattle.job_validity.specs.Laws.{ReadJobsAreValid}
 use Rattle.job_validity.proofs.Outcomes.{answer}
 use Rattle.job_validity.proofs.MapFacts.{IsGoodSpec}
 use Rattle.job_validity.proofs.Seen.{IsVectorFor, IsPartsFor}
 use Rattle.job_validity.proofs.KnownMaps.{good-specs, mapped-first, mapped-after, all-mapped}
 use Rattle.job_validity.proofs.KnownNames.{job-named}
 use Rattle.job_validity.proofs.KnownValues.{makers-valid, steps-printable}
-use Rattle.job_validity.proofs.Traces.{AreFor, IsReadStep}
-use Rattle.job_validity.proofs.Reading.{IsReadJob, after_maps, after_vectors, after_matrices, job-read}
+use Rattle.job_validity.proofs.Reading.{IsReadJob, after_maps, after_vectors, job-read}
 use Rattle.model_defs.specs.Makers.{GivenVector, GivenParts, Made}
 use Rattle.model_defs.specs.declared.job.Step.TheVariants as step
 
@@ -28,7 +22,7 @@ use Rattle.model_defs.specs.declared.job.Step.TheVariants as step
 all-follow : {A : Type 0} (P Q : A → Type 0) (xs : List A) → ((x : A) → P x → Q x) → All P xs → All Q xs
 all-follow P Q xs each h = λ k d l. each _ (h k d l)
 
-module _ (u : Unbuilt) (job : Job) (h : IsReadJob u job) where
+module _ (job : Job) (h : IsReadJob job) where
   good : All (IsGoodSpec job.ranks) job.maps
   good = good-specs job.maps (no_names job.ranks) h.tables.maps
 
@@ -48,24 +42,12 @@ module _ (u : Unbuilt) (job : Job) (h : IsReadJob u job) where
   read-valid = record {
     some = h.some;
     limits = limits;
-    named = job-named u job h.tables;
+    named = job-named job h.tables;
     forms = λ m l. (good m no_map l).form;
     layouts = λ m l. (good m no_map l).layout h.some;
-    values = λ k l. makers-valid job u h.tables k (Made (step.Print 0)) l;
-    prints = steps-printable job u h.tables;
+    values = λ k l. makers-valid job h.tables k (Made (step.Print 0)) l;
+    prints = steps-printable job h.tables;
   }
 
--- ---- with the words that are built by now
-
-built-steps : (u : Unbuilt) (steps : List Step) (known : Known) → u ≡ TODAY → AreFor with_step (IsReadStep u) known steps → All IsBuiltStep steps
-built-steps u [] known e h = All-nil IsBuiltStep
-built-steps u (s ∷ ss) known e h = All-cons IsBuiltStep s ss (h.0.built e) (built-steps u ss (with_step known s) e h.1)
-
-read-built : (job : Job) → IsReadJob TODAY job → IsBuiltJob job
-read-built job h = built-steps TODAY job.steps (after_matrices job) refl h.tables.steps
-
 pub read-jobs-are-valid : ReadJobsAreValid
-read-jobs-are-valid = λ u text job e. read-valid u job (answer (IsReadJob u) (job_by u text) job (job-read u text) e)
-
-pub read-jobs-are-built : ReadJobsAreBuilt
-read-jobs-are-built = λ text job e. read-built job (answer (IsReadJob TODAY) (job_of text) job (job-read TODAY text) e)
+read-jobs-are-valid = λ text job e. read-valid job (answer IsReadJob (job_of text) job (job-read text) e)

@@ -5,12 +5,9 @@ use Rattle.toml.specs.Data.{Data, Items, no_items, item, Members}
 use Rattle.model_defs.specs.declared.job.VectorSpec.{VectorSpec}
 use Rattle.model_defs.specs.declared.job.PartsSpec.{PartsSpec}
 use Rattle.model_defs.specs.declared.job.MatrixSpec.{MatrixSpec}
-use Rattle.model_defs.specs.declared.job.Step.{Step}
 use Rattle.model_defs.specs.Makers.{GivenVector, GivenParts, GivenMatrix}
 use Rattle.job_text.specs.declared.place.Place.TheVariants as place
 use Rattle.job_text.specs.declared.words.Form.TheVariants as form
-use Rattle.job_text.specs.declared.words.Unbuilt.{Unbuilt}
-use Rattle.job_text.specs.declared.words.TheConstants.{TODAY}
 use Rattle.job_text.specs.Outcomes.{Outcome, ◌>>=◌}
 use Rattle.job_text.specs.Names.{Text}
 use Rattle.job_text.specs.Keys.{only_keys}
@@ -20,13 +17,11 @@ use Rattle.job_text.specs.Known.{Known, with_spec, with_maker, with_step, Read, 
 use Rattle.job_text.specs.Maps.{map_in, maps_after}
 use Rattle.job_text.specs.Given.{vector_in, vectors_after, parts_in, parts_after, matrix_in, matrices_after}
 use Rattle.job_text.specs.Steps.{op_at, step_in, steps_after}
-use Rattle.job_validity.proofs.Outcomes.{Holds, weaken, bind, skip, both-hold}
+use Rattle.job_validity.proofs.Outcomes.{Holds, weaken, bind, skip}
 use Rattle.job_validity.proofs.MapFacts.{IsMapFor, map-in}
 use Rattle.job_validity.proofs.Seen.{IsMakerFor, IsVectorFor, IsPartsFor}
 use Rattle.job_validity.proofs.GivenFacts.{vector-in, parts-in, matrix-in}
 use Rattle.job_validity.proofs.StepFacts.{IsStepFor, step-of}
-use Rattle.value_phases.specs.BuiltJobs.{IsBuiltStep}
-use Rattle.job_validity.proofs.BuiltSteps.{built-step-in}
 
 -- what is named after each of a list, and what holds of each by what is named before it
 module _ {A : Type 0} (next : Known → A → Known) where
@@ -109,30 +104,14 @@ with_matrix known spec = with_maker known (GivenMatrix spec)
 abbrev pub IsMatrixFor : Known → MatrixSpec → Type 0
 IsMatrixFor known spec = IsMakerFor known (GivenMatrix spec)
 
--- a statement by what is named, and by the words that are built
-pub record IsReadStep (u : Unbuilt) (known : Known) (step : Step) : Type 0 where
-  pub made : IsStepFor known step
-  pub built : u ≡ TODAY → IsBuiltStep step
-
-step-in : (u : Unbuilt) (k : ℕ) (table : Members) (known : Known) → Holds (IsReadStep u known) (step_in k table known u)
-step-in u k table known =
-    weaken (λ s. IsStepFor known s × (u ≡ TODAY → IsBuiltStep s)) (IsReadStep u known) (step_in k table known u) (λ s h. record { made = h.0; built = h.1 })
-    (both-hold (IsStepFor known) (λ s. u ≡ TODAY → IsBuiltStep s) (step_in k table known u) made (under (step_in k table known) (built-step-in k table known)))
-  where
-    made : Holds (IsStepFor known) (step_in k table known u)
-    made = skip (IsStepFor known) (op_at u (place.Do k) table) _ (λ o. skip (IsStepFor known) (only_keys (place.Do k) (form.Do o) table) _ (λ only. step-of k table known o))
-
-    later : (o : Outcome Step) → (u ≡ TODAY → Holds IsBuiltStep o) → Holds (λ s. u ≡ TODAY → IsBuiltStep s) o
-    later (Ok s) h = h
-    later (Err fault) h = tt
-
-    under : (f : Unbuilt → Outcome Step) → Holds IsBuiltStep (f TODAY) → Holds (λ s. u ≡ TODAY → IsBuiltStep s) (f u)
-    under f h = later (f u) (λ e. subst (λ v. Holds IsBuiltStep (f v)) (sym e) h)
+step-in : (k : ℕ) (table : Members) (known : Known) → Holds (IsStepFor known) (step_in k table known)
+step-in k table known =
+    skip (IsStepFor known) (op_at (place.Do k) table) _ (λ o. skip (IsStepFor known) (only_keys (place.Do k) (form.Do o) table) _ (λ only. step-of k table known o))
 
 -- ---- from the start of an array
 
-pub maps-read : (u : Unbuilt) (known : Known) (ds : Items) → Holds (AreRead with_spec IsMapFor known (item_count ds)) (maps_after u (read known []) 0 ds)
-maps-read u = array-read with_spec IsMapFor (maps_after u) (codes "map") (λ k. map_in u (place.Map k)) (λ k. map-in u (place.Map k)) (λ so_far k. refl) (λ so_far k d ds. refl)
+pub maps-read : (known : Known) (ds : Items) → Holds (AreRead with_spec IsMapFor known (item_count ds)) (maps_after (read known []) 0 ds)
+maps-read = array-read with_spec IsMapFor maps_after (codes "map") (λ k. map_in (place.Map k)) (λ k. map-in (place.Map k)) (λ so_far k. refl) (λ so_far k d ds. refl)
 
 pub vectors-read : (known : Known) (ds : Items) → Holds (AreRead with_vector IsVectorFor known (item_count ds)) (vectors_after (read known []) 0 ds)
 vectors-read = array-read with_vector IsVectorFor vectors_after (codes "vector") (λ k. vector_in (place.Vector k)) (λ k. vector-in (place.Vector k)) (λ so_far k. refl) (λ so_far k d ds. refl)
@@ -143,5 +122,5 @@ parts-read = array-read with_parts IsPartsFor parts_after (codes "parts") (λ k.
 pub matrices-read : (known : Known) (ds : Items) → Holds (AreRead with_matrix IsMatrixFor known (item_count ds)) (matrices_after (read known []) 0 ds)
 matrices-read = array-read with_matrix IsMatrixFor matrices_after (codes "matrix") (λ k. matrix_in (place.Matrix k)) (λ k. matrix-in (place.Matrix k)) (λ so_far k. refl) (λ so_far k d ds. refl)
 
-pub steps-read : (u : Unbuilt) (known : Known) (ds : Items) → Holds (AreRead with_step (IsReadStep u) known (item_count ds)) (steps_after u (read known []) 0 ds)
-steps-read u = array-read with_step (IsReadStep u) (steps_after u) (codes "do") (λ k table known. step_in k table known u) (step-in u) (λ so_far k. refl) (λ so_far k d ds. refl)
+pub steps-read : (known : Known) (ds : Items) → Holds (AreRead with_step IsStepFor known (item_count ds)) (steps_after (read known []) 0 ds)
+steps-read = array-read with_step IsStepFor steps_after (codes "do") step_in step-in (λ so_far k. refl) (λ so_far k d ds. refl)

@@ -1,9 +1,7 @@
 //! The laws of the jobs that are read. Each function has an empty body: what it proves is its contract.
-ghost use Rattle.job_validity.specs.Laws.{ReadJobsAreValid, ReadJobsAreBuilt};
+ghost use Rattle.job_validity.specs.Laws.{ReadJobsAreValid};
 
-/// Whatever words are built, a job that a text gives is valid. With the words that are built by now its
-/// statements are those that the ranks carry out.
+/// A job that a text gives is valid.
 pub fn read_jobs_are_valid()
     ensures valid { ReadJobsAreValid }
-    ensures built { ReadJobsAreBuilt }
 {}

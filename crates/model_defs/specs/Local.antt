@@ -1,4 +1,4 @@
--- Jobs without letters: each rank makes its pieces of all values by itself. The ranks carry out these jobs by now.
+-- Jobs without letters: each rank makes its pieces of all values by itself.
 use Rattle.std.specs.Prelude.{◌≡◌, All, []}
 use Rattle.model_defs.specs.declared.job.Job.{Job}
 use Rattle.model_defs.specs.declared.job.Step.{Step}

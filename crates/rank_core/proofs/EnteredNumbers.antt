@@ -43,7 +43,7 @@ use Rattle.rank_stages.specs.OwnerLaws.{plan_about}
 use Rattle.rank_stages.specs.Views.{View}
 use Rattle.rank_stages.proofs.Entering.{numbers_are_entered}
 use Rattle.rank_stages.proofs.Prepared.{transfers_have_plans}
-use Rattle.value_phases.specs.BuiltValues.{HasBuiltValues, IsAssembled}
+use Rattle.value_phases.specs.ValueKinds.{HasValueKinds, IsAssembled}
 use Rattle.value_phases.specs.ValuePhases.{HasValuePhases, IsMapPlan, IsPlanOf, IsStructurePlan, is_of_structure}
 use Rattle.rank_pieces.specs.Pieces.{AreOwnPieces}
 use Rattle.rank_pieces.specs.declared.pieces.Piece.{Piece}
@@ -108,7 +108,7 @@ row-plan-of job v (ColumnPlan w) k own of e = absurd (let bad : ⊥ = cc in bad)
 row-plan-of job v (RowPlan w) k own of e = ap (λ u. RowPlan u) (row-of job v w k own of e)
 
 module _ {S : Type 0} (R : Semiring S) (F : Conversions S) (worker : JobWorker S) (s : Stage) (ready : IsReady R F worker s) (phase : ℕ) (can : CanEnter s phase)
-    (phased : HasValuePhases worker.job.value) (built : HasBuiltValues worker.job.value) (k stage : ℕ) (sends : IsSending worker.job.value phase k stage) where
+    (phased : HasValuePhases worker.job.value) (kinds : HasValueKinds worker.job.value) (k stage : ℕ) (sends : IsSending worker.job.value phase k stage) where
   abbrev job : Job
   job = worker.job.value
 
@@ -125,7 +125,7 @@ module _ {S : Type 0} (R : Semiring S) (F : Conversions S) (worker : JobWorker S
   at-value = record {
     input = ready.worker_of.input;
     phased = phased;
-    built = built;
+    kinds = kinds;
     shapes_are = ready.worker_of.shapes;
     below = subst (λ v. v < value_count job) sends.value (phased.below phase sends.phase sends.at);
     pieces_are = own-many;

@@ -12,7 +12,7 @@ use Rattle.model_defs.specs.declared.shape.Shape.{Shape}
 use Rattle.model_defs.specs.Makers.{value_count}
 use Rattle.model_defs.specs.Phases.{phases}
 use Rattle.rank_share.specs.declared.share.Share.{Share}
-use Rattle.value_phases.specs.BuiltValues.{HasBuiltValues}
+use Rattle.value_phases.specs.ValueKinds.{HasValueKinds}
 use Rattle.value_phases.specs.ValuePhases.{HasValuePhases}
 use Rattle.value_phases.specs.ValueStages.{HasValueStages}
 use Rattle.rank_pieces.specs.declared.pieces.Piece.{Piece}
@@ -58,7 +58,7 @@ module _ {S : Type 0} (R : Semiring S) (F : Conversions S) (job : Job) (files : 
   }
 
 module _ {S : Type 0} (R : Semiring S) (F : Conversions S) (worker : JobWorker S) (s : Stage) (stands : IsJobWorker R F worker s) (phase : ℕ) (can : CanEnter s phase)
-    (phased : HasValuePhases worker.job.value) (staged : HasValueStages worker.job.value) (built : HasBuiltValues worker.job.value)
+    (phased : HasValuePhases worker.job.value) (staged : HasValueStages worker.job.value) (kinds : HasValueKinds worker.job.value)
     (count : ℕ) (count_is : count ≡ count_before worker.job.value (slice_get worker.phases.items phase)) (more : length worker.values.items < count) where
   abbrev job : Job
   job = worker.job.value
@@ -85,7 +85,7 @@ module _ {S : Type 0} (R : Semiring S) (F : Conversions S) (worker : JobWorker S
       (subst (λ a. CanLeave R F job stands.files worker.me worker.share worker.shapes.items a s.absorbed worker.book k making) (sym pieces_are)
       (subst (λ a. CanLeave R F job stands.files worker.me worker.share worker.shapes.items worker.values.items s.absorbed worker.book a making) (sym k_is)
       (subst (CanLeave R F job stands.files worker.me worker.share worker.shapes.items worker.values.items s.absorbed worker.book (length worker.values.items)) (sym making_is)
-      (can-leave R F worker s stands phase can phased staged built above)))))
+      (can-leave R F worker s stands phase can phased staged kinds above)))))
 
   -- so its piece is the rank's
   pub own-as : (j : Job) (shapes : List Shape) (pieces : List (Piece S)) (k : ℕ) (making : Option (Making S)) → j ≡ worker.job.value → shapes ≡ worker.shapes.items → pieces ≡ worker.values.items
@@ -124,7 +124,7 @@ module _ {S : Type 0} (R : Semiring S) (F : Conversions S) (worker : JobWorker S
     items-here v from to = passed-here job phased s.entered v (subst (λ n. v < n) count-made to) (by made refl)
       where
         by : (o : Option (Piece S)) → made ≡ o → IsFirst job phased s.entered v
-        by None e = let first = none-first R F worker s stands phase can phased staged built above (none e) in λ m of before. omega (arith, first, before)
+        by None e = let first = none-first R F worker s stands phase can phased staged kinds above (none e) in λ m of before. omega (arith, first, before)
         by (Some p) e =
             first-behind v
             (let longer = length-more worker.values.items p in
@@ -134,10 +134,10 @@ module _ {S : Type 0} (R : Semiring S) (F : Conversions S) (worker : JobWorker S
         → AreOwnPieces R F worker.job.value stands.files worker.me s.absorbed (length items) items
     items-own is =
         subst (λ xs. AreOwnPieces R F job stands.files worker.me s.absorbed (length xs) xs) (sym items_are)
-        (put-own R F job stands.files worker.me s.absorbed worker.values.items made (own R F worker s stands phase can phased staged built) is)
+        (put-own R F job stands.files worker.me s.absorbed worker.values.items made (own R F worker s stands phase can phased staged kinds) is)
 
 module _ {S : Type 0} (R : Semiring S) (F : Conversions S) (worker : JobWorker S) (s : Stage) (stands : IsJobWorker R F worker s) (phase : ℕ) (can : CanEnter s phase)
-    (phased : HasValuePhases worker.job.value) (staged : HasValueStages worker.job.value) (built : HasBuiltValues worker.job.value)
+    (phased : HasValuePhases worker.job.value) (staged : HasValueStages worker.job.value) (kinds : HasValueKinds worker.job.value)
     (count : ℕ) (count_is : count ≡ count_before worker.job.value (slice_get worker.phases.items phase)) (all : count ≤ length worker.values.items) where
   -- where none is to be made, all are there
   pub all-there : length worker.values.items ≡ count
@@ -153,4 +153,4 @@ module _ {S : Type 0} (R : Semiring S) (F : Conversions S) (worker : JobWorker S
       omega arith
 
   pub own-all : AreOwnPieces R F worker.job.value stands.files worker.me s.absorbed count worker.values.items
-  own-all = subst (λ n. AreOwnPieces R F worker.job.value stands.files worker.me s.absorbed n worker.values.items) all-there (own R F worker s stands phase can phased staged built)
+  own-all = subst (λ n. AreOwnPieces R F worker.job.value stands.files worker.me s.absorbed n worker.values.items) all-there (own R F worker s stands phase can phased staged kinds)

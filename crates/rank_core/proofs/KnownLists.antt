@@ -22,7 +22,6 @@ use Rattle.model_defs.specs.Maps.{list_of}
 use Rattle.model_defs.specs.Shapes.{is_split_sort, shape}
 use Rattle.rank_stages.specs.JobStages.{about_at}
 use Rattle.rank_stages.specs.OwnerLaws.{plan_about}
-use Rattle.value_phases.specs.BuiltValues.{HasBuiltValues}
 use Rattle.value_phases.specs.ValuePhases.{HasValuePhases, IsAfter, IsPlanOf, IsRowPhase}
 use Rattle.value_phases.specs.Laws.{MatricesAreKnown}
 use Rattle.rank_makings.specs.Comings.{AreHeard}
@@ -62,7 +61,7 @@ row-value {job} {v} {k} (inr h) = elim h.is [
 ]
 
 module _ {S : Type 0} (R : Semiring S) (F : Conversions S) (columns : FillsHaveColumns R F) (matrices : MatricesAreKnown) (worker : JobWorker S) (s : Stage) (ready : IsReady R F worker s) (phase : ℕ)
-    (can : CanEnter s phase) (phased : HasValuePhases worker.job.value) (built : HasBuiltValues worker.job.value) where
+    (can : CanEnter s phase) (phased : HasValuePhases worker.job.value) where
   abbrev job : Job
   job = worker.job.value
 
@@ -90,16 +89,17 @@ module _ {S : Type 0} (R : Semiring S) (F : Conversions S) (columns : FillsHaveC
         no-plan t about plan (sym is ∙ ap (λ p. p.about) same ∙ sends.about) of
 
     -- the columns of a matrix that is under construction
-    column-list : (v : ℕ) → plan_about about ≡ Some (ColumnPlan v) → (making : Option (Making S)) → IsAfter worker.job.value phase v → IsStructuring worker.job.value phase v
+    column-list : (v : ℕ) → x.value ≡ v → plan_about about ≡ Some (ColumnPlan v) → (making : Option (Making S)) → IsAfter worker.job.value phase v → IsStructuring worker.job.value phase v
         → IsMakingFor R F worker.job.value ready.files worker.me worker.values.items s.absorbed phase v making
         → IsListKnown R F worker.job.value ready.files worker.me (ColumnPlan v) making
-    column-list v of None after x now = absurd (now.1 x)
-    column-list v of (Some (Arriving c)) after x now = absurd now
-    column-list v of (Some (Arrived w)) after x now = absurd (sends-none (ColumnPlan v) of v (suc now.0) now.1.0)
-    column-list v of (Some (Filled fill)) after x now = (
+    column-list v e of None after y now = absurd (now.1 y)
+    column-list v e of (Some (Arriving c)) after y now = absurd now
+    column-list v e of (Some (Arrived w)) after y now = absurd (sends-none (ColumnPlan v) of v (suc now.0) now.1.0)
+    column-list v e of (Some (Filled fill)) after y now = (
       fill,
       refl,
-      λ ok. columns job ready.files worker.me worker.values.items s.absorbed v phase fill ready.book.valid ready.book.fitting built after.structured after.sent heard ok now.1,
+      λ ok. columns job ready.files worker.me worker.values.items s.absorbed v phase fill ready.book.valid ready.book.fitting after.structured after.sent
+          (λ w t m low sends. phased.left phase w t m x at (subst (λ u. w < u) (sym e) low) sends) heard ok now.1,
     )
 
     -- the rows of a matrix of a file
@@ -123,7 +123,7 @@ module _ {S : Type 0} (R : Semiring S) (F : Conversions S) (columns : FillsHaveC
     plan-known (ColumnPlan v) of =
         let after = phased.columns_after phase v x at (ap plan_about is ∙ of) in
         let e = column-value (phased.plans phase x (ColumnPlan v) at (ap plan_about is ∙ of)) in
-        column-list v of worker.making after (structuring v e after) (making-is v e)
+        column-list v e of worker.making after (structuring v e after) (making-is v e)
     plan-known (RowPlan v) of =
         let e = row-value (phased.plans phase x (RowPlan v) at (ap plan_about is ∙ of)) in
         row-list v of (phased.row_phases phase v x at (ap plan_about is ∙ of)) (subst (λ k. k < value_count job) e (phased.below phase x at)) worker.making (making-is v e)

@@ -28,7 +28,7 @@ use Rattle.rank_plans.specs.Books.{Book}
 use Rattle.rank_stages.specs.JobStages.{HasLeft, IsOpen, about_at, gathered_so_far}
 use Rattle.rank_stages.specs.Views.{View}
 use Rattle.plan_phases.specs.BookCalls.{IsSharedBook}
-use Rattle.value_phases.specs.BuiltValues.{HasBuiltValues, IsGivenSplit}
+use Rattle.value_phases.specs.ValueKinds.{HasValueKinds, IsGivenSplit}
 use Rattle.value_phases.specs.ValuePhases.{HasValuePhases, is_of_structure}
 use Rattle.value_phases.specs.ValueStages.{HasValueStages}
 use Rattle.rank_pieces.specs.declared.pieces.Piece.{Piece}
@@ -51,7 +51,7 @@ use Rattle.rank_core.proofs.Counted.{at-place, count-at, count-end, count-most}
 use Rattle.rank_core.proofs.Turns.{first-after, leave-dense, leave-none, leave-sparse, no-more, of-sending, passed-here, sending-phase, sent-of}
 
 module _ {S : Type 0} (R : Semiring S) (F : Conversions S) (worker : JobWorker S) (s : Stage) (stands : IsJobWorker R F worker s) (phase : ℕ) (can : CanEnter s phase)
-    (phased : HasValuePhases worker.job.value) (staged : HasValueStages worker.job.value) (built : HasBuiltValues worker.job.value) where
+    (phased : HasValuePhases worker.job.value) (staged : HasValueStages worker.job.value) (kinds : HasValueKinds worker.job.value) where
   abbrev job : Job
   job = worker.job.value
 
@@ -81,7 +81,7 @@ module _ {S : Type 0} (R : Semiring S) (F : Conversions S) (worker : JobWorker S
   at-value below = record {
     input = stands.worker_of.input;
     phased = phased;
-    built = built;
+    kinds = kinds;
     shapes_are = stands.worker_of.shapes;
     below = below;
     pieces_are = own;
@@ -152,6 +152,7 @@ module _ {S : Type 0} (R : Semiring S) (F : Conversions S) (worker : JobWorker S
           structured = x.after.structured;
           phase = m;
           sent = x.after.sent;
+          before = λ v t n low sends. phased.left m v t n of.phase of.at (subst (λ w. v < w) (sym of.value) low) sends;
           heard = heard m (omega arith);
           me_is = stands.book.me ∙ stands.worker_of.rank;
           columns = shared m last plan.0 plan.1 plan.2 plan.3 (ColumnPlan k) plan.4 refl;

@@ -7,27 +7,25 @@ use Rattle.rank_phases.specs.Stages.{Stage, CanEnter}
 use Rattle.model_defs.specs.declared.job.Job.{Job}
 use Rattle.model_defs.specs.Makers.{maker_of}
 use Rattle.model_defs.specs.Phases.{phases}
-use Rattle.value_phases.specs.BuiltValues.{HasBuiltValues}
-use Rattle.value_phases.specs.Laws.{MatricesAreKnown}
+use Rattle.value_phases.specs.ValueKinds.{HasValueKinds, is_own_matrix}
 use Rattle.value_phases.specs.ValuePhases.{HasValuePhases}
 use Rattle.value_phases.specs.ValueStages.{HasValueStages}
 use Rattle.rank_makings.specs.declared.coming.Coming.TheVariants.{Cells, Rows}
-use Rattle.rank_makings.specs.Laws.{PartsAreFilled, RowsAreFilled}
 use Rattle.rank_core.specs.declared.makings.Making.{Making}
 use Rattle.rank_core.specs.declared.makings.Making.TheVariants.{Arriving, Arrived, Filled}
 use Rattle.rank_core.specs.declared.worker.JobWorker.{JobWorker}
-use Rattle.rank_core.specs.Leaving.{IsBegunBy, IsNext, is_given_split}
+use Rattle.rank_core.specs.Leaving.{IsBegunBy, IsNext}
 use Rattle.rank_core.specs.Makings.{IsMakingFor, IsMakingIn, IsPhaseOf, IsStructuring}
 use Rattle.rank_core.specs.Pieces.{made_count}
 use Rattle.rank_core.specs.Workers.{IsJobWorker, IsMakingAt}
 use Rattle.rank_core.proofs.Counted.{at-place, count-at, count-end}
-use Rattle.rank_core.proofs.Leaving.{gathered-so, have-come}
-use Rattle.rank_core.proofs.Nexts.{begun-for, given-split}
-use Rattle.rank_core.proofs.Turns.{IsFirst, on-dense, on-none, on-sparse, on-structured, sent-of, split-structured}
+use Rattle.rank_core.proofs.Leaving.{have-come}
+use Rattle.rank_core.proofs.Nexts.{begun-for}
+use Rattle.rank_core.proofs.Turns.{IsFirst, on-dense, on-none, on-sparse, on-structured, own-structured}
 
-module _ {S : Type 0} (R : Semiring S) (F : Conversions S) (parts : PartsAreFilled R F) (rows : RowsAreFilled R F) (matrices : MatricesAreKnown)
+module _ {S : Type 0} (R : Semiring S) (F : Conversions S)
     (worker : JobWorker S) (s : Stage) (stands : IsJobWorker R F worker s) (phase : ℕ) (can : CanEnter s phase)
-    (phased : HasValuePhases worker.job.value) (staged : HasValueStages worker.job.value) (built : HasBuiltValues worker.job.value)
+    (phased : HasValuePhases worker.job.value) (staged : HasValueStages worker.job.value) (kinds : HasValueKinds worker.job.value)
     (same : length worker.values.items ≡ made_count worker.job.value (suc s.entered)) where
   abbrev job : Job
   job = worker.job.value
@@ -39,7 +37,7 @@ module _ {S : Type 0} (R : Semiring S) (F : Conversions S) (parts : PartsAreFill
   Next next = IsMakingFor R F worker.job.value stands.files worker.me worker.values.items s.absorbed s.entered (length worker.values.items) next
 
   abbrev NextIs : Option (Making S) → Option (Making S) → Type 0
-  NextIs making next = IsNext R F worker.job.value stands.files worker.me (length worker.values.items) making next
+  NextIs making next = IsNext R F worker.job.value stands.files worker.me worker.values.items s.absorbed (length worker.values.items) making next
 
   first-of-all : s.entered ≡ 0 → IsFirst worker.job.value phased s.entered (length worker.values.items)
   first-of-all e m of low = omega arith
@@ -48,21 +46,17 @@ module _ {S : Type 0} (R : Semiring S) (F : Conversions S) (parts : PartsAreFill
       → (making next : Option (Making S)) → IsMakingIn R F worker.job.value stands.files worker.me worker.values.items s.absorbed m (length worker.values.items) stands.view.gathered making
       → NextIs making next
       → IsMakingFor R F worker.job.value stands.files worker.me worker.values.items s.absorbed (suc m) (length worker.values.items) next
-  goes-on m e of more None next is begun = by (is_given_split (maker_of job k)) refl begun
+  goes-on m e of more None next is begun = by (is_own_matrix job (maker_of job k)) refl begun
     where
-      by : (b : Bool) → is_given_split (maker_of job k) ≡ b → IsBegunBy R F job stands.files worker.me b k next
+      by : (b : Bool) → is_own_matrix job (maker_of job k) ≡ b → IsBegunBy R F job stands.files worker.me b worker.values.items s.absorbed k next
           → IsMakingFor R F job stands.files worker.me worker.values.items s.absorbed (suc m) k next
-      by true split begun_is = absurd (is.1 (split-structured job phased m k of (given-split R F parts rows matrices job stands.book.valid phased built stands.files worker.me k split)))
+      by true own begun_is = absurd (is.1 (own-structured job phased m k of (kinds.own k own)))
       by false plain none = subst (IsMakingFor R F job stands.files worker.me worker.values.items s.absorbed (suc m) k) (sym none) (on-none job phased m k of is.0 is.1)
   goes-on m e of more (Some (Arriving (Cells c))) next (stage, (sends, coming)) next_is =
       subst (IsMakingFor R F job stands.files worker.me worker.values.items s.absorbed (suc m) k) (sym next_is)
-      (stage, (on-dense job phased staged m k stage sends more coming.dense, have-come R F worker s stands phase can phased staged built m stage (sym e) sends c coming))
-  goes-on m e of more (Some (Arriving (Rows c))) next (stage, (sends, coming)) next_is =
-      subst (IsMakingFor R F job stands.files worker.me worker.values.items s.absorbed (suc m) k) (sym next_is) (
-        on-sparse job phased staged m k stage sends more coming.sparse,
-        rows job stands.files worker.me worker.values.items s.absorbed k stage m (stands.view.gathered k stage) c built (sent-of job phased m k stage sends) coming
-            (gathered-so R F worker s stands phase can phased staged built m stage (sym e) sends),
-      )
+      (stage, (on-dense job phased staged m k stage sends more coming.dense, have-come R F worker s stands phase can phased staged kinds m stage (sym e) sends c coming))
+  goes-on m e of more (Some (Arriving (Rows c))) next (stage, (sends, coming)) (fill, next_is, filled) =
+      subst (IsMakingFor R F job stands.files worker.me worker.values.items s.absorbed (suc m) k) (sym next_is) (on-sparse job phased staged m k stage sends more coming.sparse, filled)
   goes-on m e of more (Some (Arrived v)) next is next_is = absurd is
   goes-on m e of more (Some (Filled fill)) next (x, filled) next_is =
       subst (IsMakingFor R F job stands.files worker.me worker.values.items s.absorbed (suc m) k) (sym next_is) (on-structured job phased m k x more, filled)
@@ -73,7 +67,7 @@ module _ {S : Type 0} (R : Semiring S) (F : Conversions S) (parts : PartsAreFill
       by : (e : ℕ) → s.entered ≡ e → Next next
       by zero e =
           let none = subst (IsMakingAt R F worker stands.files s stands.view.gathered) e stands.making in
-          begun-for R F parts rows matrices job stands.book.valid phased built stands.files worker.me worker.values.items s.absorbed s.entered k (first-of-all e) same next
+          begun-for R F job phased kinds stands.files worker.me worker.values.items s.absorbed s.entered k (first-of-all e) same next
           (subst (λ m. NextIs m next) none is)
       by (suc m) e = elim (at-place (phases job) m) [
         | inl (a, at) ↦

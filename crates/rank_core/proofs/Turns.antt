@@ -1,20 +1,23 @@
 -- From a phase to the next one: what is being made of a value while its phases go on, and how the value is left.
 use Rattle.std.proofs.Common.{◌≡◌, ℕ, zero, suc, ◌<◌, ◌≤◌, ◌⊎◌, inl, inr, true, false, List, [], length, Option, None, Some, refl, sym, ap, ◌∙◌, subst, arith}
 use Rattle.std.specs.Prelude.{slice_get}
-use Rattle.std.proofs.lemmas.Bool.{cases_lt}
+use Rattle.std.specs.List.{slice_index_or}
+use Rattle.std.proofs.lemmas.Bool.{cases_lt, eq-eqb}
 use Rattle.std.proofs.lemmas.Option.{slice_get_within, same_Some}
 use Rattle.model_defs.specs.declared.job.Job.{Job}
 use Rattle.model_defs.specs.declared.phase.About.TheVariants.{SendNumbers, SharePlan}
 use Rattle.model_defs.specs.declared.phase.Phase.{Phase}
 use Rattle.model_defs.specs.Phases.{phases, send_phase}
 use Rattle.model_defs.specs.Shapes.{shape, is_dense, is_split_sort}
-use Rattle.model_defs.specs.Stages.{stage_count}
-use Rattle.model_defs.specs.declared.phase.Plan.TheVariants.{ColumnPlan, RowPlan}
+use Rattle.model_defs.specs.Stages.{stage_count, transfer_at}
+use Rattle.model_defs.specs.Transfers.{from_owners, is_local}
+use Rattle.model_defs.specs.declared.phase.Plan.TheVariants.{ColumnPlan, ImportPlan, RowPlan}
 use Rattle.model_defs.proofs.Phases.{stages_are_in_order}
 use Rattle.rank_stages.specs.JobStages.{about_at}
 use Rattle.rank_stages.proofs.SendPhases.{send-phase-is}
 use Rattle.rank_stages.proofs.SentOnce.{transfers_are_sent_once}
-use Rattle.value_phases.specs.BuiltValues.{HasBuiltValues, IsGivenSplit}
+use Rattle.rank_transfers.proofs.Unsent.{local-transfers-are-unsent}
+use Rattle.value_phases.specs.ValueKinds.{IsOwnMatrix}
 use Rattle.value_phases.specs.ValuePhases.{HasValuePhases, IsAfter, IsBefore, IsStructured}
 use Rattle.value_phases.specs.ValueStages.{HasValueStages}
 use Rattle.rank_pieces.specs.Pieces.{IsMadeHere}
@@ -193,15 +196,27 @@ module _ (job : Job) (phased : HasValuePhases job) where
       let before = phased.in_turn n t x.phase x.at x.about in
       first before.0 (record { phase = record x.phase { about = SendNumbers t }; at = before.2; value = x.value }) (let e = before.1 in omega arith)
 
-  pub split-structured : (n k : ℕ) → IsPhaseOf job n k → IsGivenSplit job k → IsStructuring job n k
-  split-structured n k of split = by (subst (λ v. IsBefore job n v ⊎ IsAfter job n v) of.value (phased.when n of.phase of.at))
+  -- nothing is sent for a matrix of which each rank makes its rows by itself
+  own-unsent : (k t n : ℕ) → IsOwnMatrix job k → t < stage_count job k → send_phase job k t ≡ Some n → ⊥
+  own-unsent k t n (inl split) low sends = let none : stage_count job k ≡ 0 = ap length split.transfers_are in omega arith
+  own-unsent k t n (inr sum) low sends =
+      let one : stage_count job k ≡ 1 = ap length sum.sum.transfers_are in
+      let first : t ≡ 0 = omega (arith, low, one) in
+      let only : transfer_at job k t ≡ from_owners (ImportPlan (shape job sum.sum.b).rows (shape job sum.sum.a).rows) =
+      (λ i. slice_index_or (sum.sum.transfers_are i) (first i) (from_owners (ImportPlan 0 0))) in
+      let none = local-transfers-are-unsent job k t (ap (λ u. is_local u.plan) only ∙ eq-eqb (shape job sum.sum.b).rows (shape job sum.sum.a).rows sum.here) in
+      let bad : ⊥ = cc in
+      bad
+
+  pub own-structured : (n k : ℕ) → IsPhaseOf job n k → IsOwnMatrix job k → IsStructuring job n k
+  own-structured n k of own = by (subst (λ v. IsBefore job n v ⊎ IsAfter job n v) of.value (phased.when n of.phase of.at))
     where
       by : IsBefore job n k ⊎ IsAfter job n k → IsStructuring job n k
       by (inr a) = record { of = of; after = a }
       by (inl b) =
           let x = sending-phase k b.stage b.phase b.sends in
           let low : b.stage < stage_count job k = subst (λ v. b.stage < stage_count job v) x.value (phased.stages b.phase b.stage x.phase x.at x.about) in
-          let none : stage_count job k ≡ 0 = ap length split.transfers_are in absurd (omega arith)
+          absurd (own-unsent k b.stage b.phase own low b.sends)
 
   -- values that are passed over are made without letters and without plans
   pub passed-here : (n v : ℕ) → v < made_count job (suc n) → IsFirst n v → IsMadeHere job v

@@ -3,7 +3,7 @@ use Rattle.std.specs.Prelude.{◌≡◌, ◌<◌, ◌⊎◌, ◌++◌, ℕ, Bool
 use Rattle.scalar_laws.specs.Semiring.{Semiring}
 use Rattle.scalar_laws.specs.Conversions.{Conversions}
 use Rattle.mm_text.specs.Reading.{File}
-use Rattle.crs_matrix.specs.Rows.{IsRowCells, RowCells, all_columns, row_table}
+use Rattle.crs_matrix.specs.Rows.{IsRowCells, RowCells, all_columns}
 use Rattle.peers.specs.Protocols.{Letter}
 use Rattle.model_defs.specs.declared.job.Job.{Job}
 use Rattle.model_defs.specs.declared.job.MatrixSpec.{MatrixSpec}
@@ -11,26 +11,21 @@ use Rattle.model_defs.specs.declared.phase.About.{About}
 use Rattle.model_defs.specs.declared.phase.Plan.{Plan}
 use Rattle.model_defs.specs.declared.phase.Plan.TheVariants.{ImportPlan, ExportPlan, ColumnPlan, RowPlan}
 use Rattle.model_defs.specs.declared.shape.Shape.{Shape}
-use Rattle.model_defs.specs.Given.{dealt_part}
-use Rattle.model_defs.specs.Makers.{GivenMatrix, Maker, maker_of, value_count}
+use Rattle.model_defs.specs.Makers.{GivenMatrix, maker_of, value_count}
 use Rattle.model_defs.specs.Plans.{rank_columns, rank_rows}
 use Rattle.multivector.specs.Vectors.{VectorState}
 use Rattle.rank_plans.specs.Books.{Book}
 use Rattle.rank_share.specs.declared.share.Share.{Share}
 use Rattle.rank_stages.specs.OwnerLaws.{plan_about}
+use Rattle.value_phases.specs.ValueKinds.{is_own_matrix}
 use Rattle.rank_pieces.specs.declared.pieces.Piece.{Piece}
 use Rattle.rank_pieces.specs.Inputs.{IsRankInput}
 use Rattle.rank_makings.specs.declared.coming.Came.{Came}
 use Rattle.rank_makings.specs.declared.coming.Came.TheVariants as came
-use Rattle.rank_makings.specs.Beginnings.{CanComplete, CanFinish}
-use Rattle.rank_makings.specs.Comings.{came_of}
+use Rattle.rank_makings.specs.Beginnings.{CanComplete, CanFill, CanFinish, IsAt}
+use Rattle.rank_makings.specs.Comings.{IsFilled, came_of}
 use Rattle.rank_core.specs.declared.makings.Making.{Making}
 use Rattle.rank_core.specs.declared.makings.Making.TheVariants.{Arriving, Arrived, Filled}
-
--- whether a value is a matrix of a file whose entries stay where they were dealt
-abbrev pub is_given_split : Maker → Bool
-is_given_split (GivenMatrix spec) = spec.split
-is_given_split _ = false
 
 -- the pieces with one more, if there is one
 abbrev pub with_made : {A : Type 0} → List A → Option A → List A
@@ -41,11 +36,6 @@ with_made pieces (Some p) = pieces ++ p ∷ []
 abbrev pub IsLeft : {S : Type 0} → (old new : List (Piece S)) → ℕ → (was m : Option (Making S)) → Type 0
 IsLeft old new count was m = ((length old < count) × (m ≡ None)) ⊎ ((length old ≡ count) × (new ≡ old) × (m ≡ was))
 
--- what is in the making once numbers came: copies, or a matrix under construction
-abbrev pub arrived : {S : Type 0} → Came S → Option (Making S)
-arrived (came.Cells v) = Some (Arrived v)
-arrived (came.Rows fill) = Some (Filled fill)
-
 module _ {S : Type 0} (R : Semiring S) (F : Conversions S) (job : Job) (files : List File) (me : ℕ) where
   -- Value k is left: its numbers came, or all of its structure's plans were shared. Without either it is made otherwise.
   abbrev pub CanLeave : Share → List Shape → List (Piece S) → List Letter → Book → ℕ → Option (Making S) → Type 0
@@ -54,21 +44,36 @@ module _ {S : Type 0} (R : Semiring S) (F : Conversions S) (job : Job) (files : 
   CanLeave share shapes pieces given b k (Some (Arrived v)) = ⊥
   CanLeave share shapes pieces given b k (Some (Filled fill)) = CanComplete R F job files me share shapes pieces given b k fill
 
-  -- the part of the matrix that was dealt to the rank, under construction
-  abbrev pub IsDealt : ℕ → Option (Making S) → Type 0
-  IsDealt k next = (fill : RowCells S) × (next ≡ Some (Filled fill)) × (fill.rows ≡ rank_rows job files k me) × (row_table fill ≡ dealt_part R F job files k me)
+  -- What is in the making before the next phase of a value can be made: of the rows that came for it, or by the rank itself.
+  abbrev pub CanTake : Share → List Shape → List (Piece S) → List Letter → ℕ → Came S → Type 0
+  CanTake share shapes pieces given k (came.Cells v) = Unit {0}
+  CanTake share shapes pieces given k (came.Rows a) = CanFill R F job files me share shapes pieces given k a
 
-  abbrev pub IsBegunBy : Bool → ℕ → Option (Making S) → Type 0
-  IsBegunBy true k next = IsDealt k next
-  IsBegunBy false k next = next ≡ None
+  abbrev pub CanGoOn : Share → List Shape → List (Piece S) → List Letter → ℕ → Option (Making S) → Type 0
+  CanGoOn share shapes pieces given k None = is_own_matrix job (maker_of job k) ≡ true → IsAt R F job files me share shapes pieces given k
+  CanGoOn share shapes pieces given k (Some (Arriving c)) = CanTake share shapes pieces given k (came_of c)
+  CanGoOn share shapes pieces given k (Some (Arrived v)) = ⊥
+  CanGoOn share shapes pieces given k (Some (Filled fill)) = Unit {0}
 
-  -- What is in the making before the next phase for value k: what came, what is under construction, or, of a matrix that is split, the
-  -- rank's part.
-  abbrev pub IsNext : ℕ → Option (Making S) → Option (Making S) → Type 0
-  IsNext k None next = IsBegunBy (is_given_split (maker_of job k)) k next
-  IsNext k (Some (Arriving c)) next = next ≡ arrived (came_of c)
-  IsNext k (Some (Arrived v)) next = ⊥
-  IsNext k (Some (Filled fill)) next = next ≡ Some (Filled fill)
+  -- the rank's rows of a matrix, under construction
+  abbrev pub IsUnderConstruction : List (Piece S) → List Letter → ℕ → Option (Making S) → Type 0
+  IsUnderConstruction pieces given k next = (fill : RowCells S) × (next ≡ Some (Filled fill)) × IsFilled R F job files me pieces given k fill
+
+  abbrev pub IsBegunBy : Bool → List (Piece S) → List Letter → ℕ → Option (Making S) → Type 0
+  IsBegunBy true pieces given k next = IsUnderConstruction pieces given k next
+  IsBegunBy false pieces given k next = next ≡ None
+
+  abbrev pub IsTaken : List (Piece S) → List Letter → ℕ → Came S → Option (Making S) → Type 0
+  IsTaken pieces given k (came.Cells v) next = next ≡ Some (Arrived v)
+  IsTaken pieces given k (came.Rows a) next = IsUnderConstruction pieces given k next
+
+  -- What is in the making before the next phase for value k: copies or sums that came, or a matrix under construction, of the rows that
+  -- came or of the rank's own.
+  abbrev pub IsNext : List (Piece S) → List Letter → ℕ → Option (Making S) → Option (Making S) → Type 0
+  IsNext pieces given k None next = IsBegunBy (is_own_matrix job (maker_of job k)) pieces given k next
+  IsNext pieces given k (Some (Arriving c)) next = IsTaken pieces given k (came_of c) next
+  IsNext pieces given k (Some (Arrived v)) next = ⊥
+  IsNext pieces given k (Some (Filled fill)) next = next ≡ Some (Filled fill)
 
   -- The rank's list by a plan of a structure is known: of columns by the matrix under construction, of rows by it, or by the part that
   -- was dealt to it.

@@ -5,11 +5,10 @@
 //! its results, are what the protocol of the job (`model_defs`) says of the letters given to it. `specs/Ranks` says what
 //! contracts see of a rank.
 //!
-//! By now a rank carries out all statements but `transpose`, `multiply`, `add` and `assemble`. A value whose numbers come from other
-//! ranks is made in phases: maps are registered, owners are asked for and told, each rank says what it lacks or what it has for
-//! others, and its numbers come (`Tpetra::Import`, `Tpetra::Export`). They are combined in the order in which the letters come. Of a
-//! matrix with places of its own the plans of its structure are made then (`Tpetra::CrsMatrix::fillComplete`). All other values are made
-//! without letters, as soon as those before them are there.
+//! A value whose numbers come from other ranks is made in phases: maps are registered, owners are asked for and told, each rank
+//! says what it lacks or what it has for others, and its numbers come (`Tpetra::Import`, `Tpetra::Export`). They are combined in
+//! the order in which the letters come. Of a matrix with places of its own the plans of its structure are made then
+//! (`Tpetra::CrsMatrix::fillComplete`). All other values are made without letters, as soon as those before them are there.
 //!
 //! ```text
 //! let share = share_of(alloc, &job, &files, me)?;

@@ -1,21 +1,20 @@
 //! How a rank leaves the value that it makes, and begins the next one.
-ghost use Rattle.std.specs.Prelude.{◌≡◌, ◌≤◌, ℕ, List, None, Some, IfOk, OnOk};
+ghost use Rattle.std.specs.Prelude.{◌≡◌, ℕ, List, None, Some, IfOk, OnOk};
 ghost use Rattle.mm_text.specs.Reading.{File};
 ghost use Rattle.peers.specs.Protocols.{Letter};
-ghost use Rattle.model_defs.specs.Makers.{maker_of, value_count};
+ghost use Rattle.model_defs.specs.ShapeLists.{at_list};
+ghost use Rattle.model_defs.specs.Shapes.{shape};
 ghost use Rattle.rank_share.specs.declared.share.Share.{Share};
 ghost use Rattle.rank_pieces.specs.declared.pieces.Piece.{Piece};
-ghost use Rattle.rank_pieces.specs.Inputs.{IsRankInput};
 ghost use Rattle.rank_pieces.specs.Pieces.{IsOwnPiece};
 ghost use Rattle.rank_core.specs.declared.makings.Making.TheVariants.{Arrived};
-ghost use Rattle.rank_core.specs.Leaving.{CanLeave, IsNext, is_given_split, with_made};
+ghost use Rattle.rank_core.specs.Leaving.{CanGoOn, CanLeave, IsNext, with_made};
 
 use crate::makings::Making;
 use model_defs::{Job, Shape};
 use multivector::MultiVector;
-use phase_list::{MadeBy, maker_at};
-use rank_makings::{Came, completed_matrix, finished_cells};
-use rank_pieces::{Piece, dealt_fill};
+use rank_makings::{Came, completed_matrix, filled_rows, finished_cells, has_own_rows, own_rows};
+use rank_pieces::Piece;
 use rank_plans::PlanBook;
 use rank_share::Share;
 use scalar_laws::Scalar;
@@ -78,42 +77,37 @@ pub(crate) fn put_piece<S: Scalar>(
     Ok(())
 }
 
-/// Whether value k is a matrix of a file whose entries stay where they were dealt.
-fn is_split(job: &Job, k: usize) -> bool
-    ensures split { result ≡ is_given_split (maker_of job.now k) }
-{
-    match maker_at(job, k) {
-        MadeBy::Matrix(spec) => spec.split,
-        MadeBy::Vector(_) | MadeBy::Parts(_) | MadeBy::Statement(_) | MadeBy::Nothing => false,
-    }
-}
-
-/// What is in the making before the next phase for value k, at the end behind the last value: what came of it, the matrix under
-/// construction, or, of a matrix that is split, the rank's part. `Err` means that memory ran out.
+/// What is in the making before the next phase for value k, at the end behind the last value: copies or sums that came of it, or a matrix
+/// under construction, of the rows that came or of the rank's own. `Err` means that memory ran out.
 pub(crate) fn next_making<S: Scalar>(
     alloc: Global,
     job: &Job,
     me: u32,
     share: &Share,
+    shapes: &[Shape],
+    pieces: &[Piece<S>],
     k: usize,
     making: Option<Making<S>>,
 ) -> Result<Option<Making<S>>, AllocError>
-    requires input { (files : List File) × IsRankInput S.conversions job.now files me share.now }
-    requires known { k ≤ value_count job.now }
-    requires of_numbers { (v : _) → making ≡ Some (Arrived v) → ⊥ }
-    ensures next { IfOk result (λ next. (files : List File) → IsRankInput S.conversions job.now files me share.now
-        → IsNext S.semiring S.conversions job.now files me k making next) }
+    requires shapes { at_list shapes.now ≡ shape job.now }
+    requires can { (files : List File) × ((given : List Letter) × CanGoOn S.semiring S.conversions job.now files me share.now shapes.now pieces.now given k making) }
+    ensures next { IfOk result (λ next. (files : List File) (given : List Letter) → CanGoOn S.semiring S.conversions job.now files me share.now shapes.now pieces.now given k making
+        → IsNext S.semiring S.conversions job.now files me pieces.now given k making next) }
 {
     match making {
         None => {
-            if !is_split(job, k) {
+            if !has_own_rows(job, shapes, k) {
                 return Ok(None);
             }
-            Ok(Some(Making::Filled(dealt_fill(alloc, job, me, share, k)?)))
+            let rows = own_rows(alloc, job, me, share, pieces, k)?;
+            Ok(Some(Making::Filled(rows)))
         }
         Some(Making::Arriving(coming)) => match coming.into_came() {
             Came::Cells(vector) => Ok(Some(Making::Arrived(vector))),
-            Came::Rows(fill) => Ok(Some(Making::Filled(fill))),
+            Came::Rows(came) => {
+                let rows = filled_rows(alloc, job, pieces, k, came)?;
+                Ok(Some(Making::Filled(rows)))
+            }
         },
         Some(Making::Filled(fill)) => Ok(Some(Making::Filled(fill))),
         Some(Making::Arrived(_)) => unreachable!(),

@@ -28,8 +28,7 @@ pub struct Rank<S> {
 
 impl<S: Scalar + Drop> Rank<S> {
     /// The rank `me` of a valid job, counted from 0, which was given nothing yet. `share` is its share of files that fit the
-    /// job, as `share_of` gives it. By now its statements are not `transpose`, `multiply`, `add` or `assemble`. `Err` means that memory
-    /// ran out.
+    /// job, as `share_of` gives it. `Err` means that memory ran out.
     pub fn start(alloc: Global, me: u32, job: &Rc<Job>, share: Share) -> Result<Rank<S>, AllocError>
         requires input { (files : List File) × IsRankInput S.conversions job.now.value files me share }
         ensures fresh { IfOk result (λ rank. (files : List File) → IsRankInput S.conversions job.now.value files me share

@@ -152,7 +152,16 @@ impl<S: Scalar> JobWorker<S> {
     {
         let count = self.count_before(phase);
         let left = self.leave(phase, count)?;
-        let next = next_making(self.alloc, &self.job, self.me, &self.share, count, left)?;
+        let next = next_making(
+            self.alloc,
+            &self.job,
+            self.me,
+            &self.share,
+            &self.shapes,
+            &self.values,
+            count,
+            left,
+        )?;
         self.put_making(next);
         Ok(())
     }

@@ -7,7 +7,6 @@ use Rattle.mm_text.specs.declared.file_data.Line.{Line}
 use Rattle.mm_text.specs.Limits.{widest}
 use Rattle.mm_text.specs.Reading.{File}
 use Rattle.mm_text.specs.Sound.{IsDense, IsSound}
-use Rattle.model_defs.specs.declared.job.Step.{Step}
 use Rattle.model_defs.specs.FileMatrix.{HasNumbers}
 use Rattle.model_defs.specs.Fitting.{IsExpected, IsFitting, expected_file}
 use Rattle.model_defs.specs.Given.{file_count, no_file, value_file}
@@ -18,21 +17,11 @@ use Rattle.model_defs.proofs.ValidExamples.{valid as valid-example}
 use Rattle.rank_core.specs.Ranks.{IsRankInput}
 use Rattle.rank_share.specs.declared.share.Share.{Share}
 use Rattle.rank_share.specs.Shares.{share as share_of}
-use Rattle.value_phases.specs.BuiltJobs.{IsBuiltJob, IsBuiltStep}
 use Rattle.rank_example.specs.SmallJob.{small_files, small_job}
 
 pub valid : IsValid small_job
 unfolding small_job
 valid = valid-example
-
-pub built : IsBuiltJob small_job
-unfolding small_job
-built = steps
-  where
-    steps : (k : ℕ) (d : Step) → k < 2 → IsBuiltStep (get_or small_job.steps k d)
-    steps zero d l = tt
-    steps (suc zero) d l = tt
-    steps (suc (suc k)) d l = absurd (omega arith)
 
 -- the one file
 abbrev file : File
@@ -96,7 +85,6 @@ some-rank = omega arith
 pub input : (share : Share) → share ≡ share_of small_job small_files 0 → IsRankInput weighed_conversions small_job small_files 0 share
 input share given = record {
   valid = valid;
-  built = built;
   fitting = fitting;
   numbers = numbers;
   rank = some-rank;

@@ -22,7 +22,7 @@ use Rattle.rank_plans.specs.Books.{Book}
 use Rattle.rank_share.specs.declared.share.Share.{Share}
 use Rattle.dense_arrivals.specs.Applies.{first_transfer, got, mine, second_transfer}
 use Rattle.dense_arrivals.proofs.Made.{applies-have-transfers}
-use Rattle.value_phases.specs.BuiltValues.{IsApply}
+use Rattle.value_phases.specs.ValueKinds.{IsApply}
 use Rattle.rank_pieces.specs.declared.pieces.Piece.{Piece}
 use Rattle.rank_pieces.specs.declared.pieces.Piece.TheVariants as of
 use Rattle.rank_pieces.specs.declared.pieces.RankMatrix.{RankMatrix}

@@ -26,7 +26,7 @@ use Rattle.rank_share.specs.declared.share.Share.{Share}
 use Rattle.rank_values.specs.Vectors.{global_table, lines_on}
 use Rattle.dense_arrivals.specs.Applies.{IsGoodApply, IsThere, first_transfer, second_transfer}
 use Rattle.dense_arrivals.proofs.Made.{applies-have-transfers, copies-are-applied, sums-are-applied}
-use Rattle.value_phases.specs.BuiltValues.{IsApply}
+use Rattle.value_phases.specs.ValueKinds.{IsApply}
 use Rattle.rank_pieces.specs.declared.pieces.Piece.{Piece}
 use Rattle.rank_pieces.specs.declared.pieces.Piece.TheVariants as of
 use Rattle.rank_pieces.specs.declared.pieces.RankMatrix.{RankMatrix}

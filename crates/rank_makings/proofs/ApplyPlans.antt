@@ -103,10 +103,10 @@ module _ {S : Type 0} (job : Job) (files : List File) (me : ℕ) (pieces : List 
   -- ---- those of a matrix
 
   module _ {a : ℕ} {m : RankMatrix S} (is : IsMatrixOf job files me a m) (at : slice_get pieces a ≡ Some (of.Matrix m)) where
-    columns-along : IsAlong a (ColumnPlan a) m.matrix.graph.cols m.columns
+    pub columns-along : IsAlong a (ColumnPlan a) m.matrix.graph.cols m.columns
     columns-along = record { structure = inl refl; has = is.columns; list_is = ap columns_in at }
 
-    rows-along : (split : Bool) → HasRows job files me split a m → (plan : PlanLists) → m.rows ≡ Some plan → IsAlong a (RowPlan a) m.matrix.graph.rows plan
+    pub rows-along : (split : Bool) → HasRows job files me split a m → (plan : PlanLists) → m.rows ≡ Some plan → IsAlong a (RowPlan a) m.matrix.graph.rows plan
     rows-along false rows plan e = absurd (let none = rows.1 in let bad : ⊥ = cc in bad)
     rows-along true rows plan e = record {
       structure = inr refl;

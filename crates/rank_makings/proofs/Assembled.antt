@@ -32,7 +32,7 @@ use Rattle.plan_phases.specs.BookCalls.{IsPlanList, IsSharedBook}
 use Rattle.plan_phases.proofs.StructureLists.{rows_are_lists}
 use Rattle.rank_plans.specs.Books.{Book}
 use Rattle.rank_share.specs.declared.share.Share.{Share}
-use Rattle.value_phases.specs.BuiltValues.{IsAssembled}
+use Rattle.value_phases.specs.ValueKinds.{IsAssembled}
 use Rattle.rank_pieces.specs.declared.pieces.Piece.{Piece}
 use Rattle.rank_makings.specs.declared.coming.RowsComing.{RowsComing}
 use Rattle.rank_makings.specs.declared.coming.RowSource.TheVariants as row
@@ -128,7 +128,7 @@ module _ {S : Type 0} {R : Semiring S} {F : Conversions S} {job : Job} {files : 
           ∙ ap (entries_by R F job files me k (transfer_at job k stage).way stage (first_pieces R F job files me (arrivals R F job files me given) k)
           (gathered_after R F job files me (arrivals R F job files me given) k (first_pieces R F job files me (arrivals R F job files me given) k) stage)) (sym is.is)
 
-      pub assembled-begun : row_table dealt ≡ dealt_part R F job files k me → (g : RowsComing S) → g.source ≡ row.Dealt dealt
+      pub assembled-begun : row_table dealt ≡ dealt_part R F job files k me → (g : RowsComing S) → g.source ≡ row.Own dealt
           → g.arriving.plan ≡ lists → g.arriving.mode ≡ Add → g.arriving.fill.rows ≡ empty.rows
           → row_table g.arriving.fill ≡ after_table R Add (row_table empty) (own_rows lists a)
           → AreRowsComing R F job files me pieces given k stage (first_gathered R F job files me pieces given k stage) g

@@ -54,7 +54,7 @@ use Rattle.model_defs.proofs.Structures.{cond-some, entries-places}
 use Rattle.model_defs.proofs.Turns.{in_turn-first}
 use Rattle.model_defs.proofs.Whole.{are_before}
 use Rattle.tables.specs.Tables.{nowhere}
-use Rattle.value_phases.specs.BuiltValues.{HasBuiltValues, IsGivenSplit}
+use Rattle.value_phases.specs.ValueKinds.{HasValueKinds, IsGivenSplit}
 use Rattle.value_phases.specs.ValuePhases.{IsStructured}
 use Rattle.value_phases.proofs.Stages.{jobs-have-value-stages}
 use Rattle.rank_pieces.specs.declared.pieces.Piece.{Piece}
@@ -118,8 +118,9 @@ column-on cols rows t i j low narrow e =
     (any-at (λ i. is_some (t i j)) i (count_from 0 rows) (stands-within 0 rows i (omega arith) (omega (arith, low))) e)
 
 module _ {S : Type 0} (R : Semiring S) (F : Conversions S) (job : Job) (files : List File) (me : ℕ) (given : List Letter) (k phase : ℕ)
-    (valid : IsValid job) (fits : IsFitting job files) (built : HasBuiltValues job) (structured : IsStructured job k)
-    (sent : (stage m : ℕ) → send_phase job k stage ≡ Some m → m < phase) (heard : AreHeard job files me phase given) where
+    (valid : IsValid job) (fits : IsFitting job files) (structured : IsStructured job k)
+    (sent : (stage m : ℕ) → send_phase job k stage ≡ Some m → m < phase) (before : (v stage m : ℕ) → v < k → send_phase job v stage ≡ Some m → m < phase)
+    (heard : AreHeard job files me phase given) where
   laws : HasRowLaws one_semiring one_conversions job files
   laws = row-laws one_laws one_conversions job files valid (fitting job files fits)
 
@@ -132,30 +133,9 @@ module _ {S : Type 0} (R : Semiring S) (F : Conversions S) (job : Job) (files : 
       ((are_before one_laws one_conversions job files laws (λ v i j. 0) (value_count job) (omega arith)).formed k below).within structured.sparse me i j
       (and_true (has_row job (shape job k) me i) _ (sym (cond-some (has_row job (shape job k) me i) (structure job files k me i j)) ∙ e)).1
 
-  -- a matrix that is split as it was dealt has the places of its lines
-  split-placed : IsGivenSplit job k → HasPlaces (piece R F job files me k given) (piece_of job (shape job k) me (structure job files k))
-  split-placed is i j =
-      ap (λ t. is_some (t i j)) (split-made R F job files me given k below is)
-      ∙ entries-places R F job files me k FromOwners 0 (λ v. nowhere) (λ v. nowhere) nowhere nowhere (λ v i j. refl) (λ i j. refl) (GivenMatrix is.spec) i j
-      ∙ ap (λ b. is_some (given_matrix one_semiring one_conversions job files k b me i j)) (sym is.split)
-      ∙ ap (λ t. is_some (t me i j)) (sym made)
-      ∙ ap (λ b. is_some (cond b (structure job files k me i j) None)) (sym has)
-    where
-      made : structure job files k ≡ given_matrix one_semiring one_conversions job files k is.spec.split
-      made = structure-is job files valid laws k below ∙ ap (λ m. make_value one_semiring one_conversions job files (λ v i j. 0) k (structure_before job files k) m) is.is
-
-      has : has_row job (shape job k) me i ≡ true
-      has = by (shape job k).sort refl is.is_split
-        where
-          by : (sort : Sort) → (shape job k).sort ≡ sort → is_split_sort (shape job k).sort ≡ true → has_row job (shape job k) me i ≡ true
-          by Vector e f = absurd (let g = ap is_split_sort e in let bad : ⊥ = cc in bad)
-          by Parts e f = absurd (let g = ap is_split_sort e in let bad : ⊥ = cc in bad)
-          by Matrix e f = absurd (let g = ap is_split_sort e in let bad : ⊥ = cc in bad)
-          by Split e f = ap (λ s. is_by_rank s || has_index job (shape job k).rows me i) e
-
-  -- all letters for it and for the values before it came
-  came-placed : (m : ℕ) → send_phase job k 0 ≡ Some m → HasPlaces (piece R F job files me k given) (piece_of job (shape job k) me (structure job files k))
-  came-placed m sends i j =
+  -- all letters for it and for the values before it came, so it has its places
+  piece-placed : HasPlaces (piece R F job files me k given) (piece_of job (shape job k) me (structure job files k))
+  piece-placed i j =
       ap (λ t. is_some (t i j)) (in_turn-first nowhere (make_piece R F job files me (arrivals R F job files me given)) (value_count job) k below)
       ∙ pieces-placed R F job files valid (fitting job files fits) given me (suc k) (omega (arith, below)) came k i j
       ∙ ap (λ v. is_some (piece_of job (shape job k) me v i j)) (before-is job files valid laws (suc k) k (omega (arith, below)) (omega arith))
@@ -165,34 +145,17 @@ module _ {S : Type 0} (R : Semiring S) (F : Conversions S) (job : Job) (files : 
       came v s l n e y there to at = heard y there to (let less = early (cases_lt v k) in omega (arith, at, less))
         where
           early : (v < k) ⊎ (k ≤ v) → n < phase
-          early (inl less) = let first = stages_are_in_order job v s k 0 n m (inl less) e sends in let last = sent 0 m sends in omega (arith, first, last)
+          early (inl less) = before v s n less e
           early (inr more) = let same : v ≡ k = omega (arith, l, more) in sent s n (ap (λ w. send_phase job w s) (sym same) ∙ e)
 
-  piece-placed : HasPlaces (piece R F job files me k given) (piece_of job (shape job k) me (structure job files k))
-  piece-placed = by (send_phase job k 0) refl
-    where
-      by : (o : Option ℕ) → send_phase job k 0 ≡ o → HasPlaces (piece R F job files me k given) (piece_of job (shape job k) me (structure job files k))
-      by (Some m) e = came-placed m e
-      by None e = split-placed (built.alone k structured (λ t. none t (send_phase job k t) refl))
-        where
-          none : (t : ℕ) (o : Option ℕ) → send_phase job k t ≡ o → send_phase job k t ≡ None
-          none t None f = f
-          none t (Some n) f =
-              absurd (
-              let known = (known-stage job k t n f).1 in
-              let one = (jobs-have-value-stages job valid).one_stage k structured.sparse in
-              let first : t ≡ 0 = omega (arith, known, one) in
-              let clash = ap (send_phase job k) (sym first) ∙ f in
-              let bad : ⊥ = cc in bad)
-
 pub fills-have-columns : {S : Type 0} (R : Semiring S) (F : Conversions S) → FillsHaveColumns R F
-fills-have-columns R F job files me pieces given k phase fill valid fits built structured sent heard is filled =
+fills-have-columns R F job files me pieces given k phase fill valid fits structured sent before heard is filled =
     ascending_unique (all_columns fill) (rank_columns job files k me) (ascending-ascends (concat (map columns_in fill.cells)))
     (count-ascends 0 (size_of job (shape job k).domain) (λ j. list_any (λ i. is_some (piece_of job (shape job k) me (structure job files k) i j)) (count_from 0 (size_of job (shape job k).rows))))
     (λ j. both-ways (stands j (all_columns fill)) (stands j (rank_columns job files k me)) (forth j) (back j))
   where
     places : HasPlaces (row_table fill) (piece_of job (shape job k) me (structure job files k))
-    places i j = ap (λ t. is_some (t i j)) filled.table ∙ piece-placed R F job files me given k phase valid fits built structured sent heard i j
+    places i j = ap (λ t. is_some (t i j)) filled.table ∙ piece-placed R F job files me given k phase valid fits structured sent before heard i j
 
     distinct : AreDistinct fill.rows
     distinct = subst AreDistinct (sym filled.rows) (by (is_split_sort (shape job k).sort))
@@ -205,7 +168,7 @@ fills-have-columns R F job files me pieces given k phase fill valid fits built s
     forth j on =
         let t = column-there fill is distinct j on in
         let e = sym (places t.0 j) ∙ t.1 in
-        let low = within R F job files me given k phase valid fits built structured sent heard t.0 j e in
+        let low = within R F job files me given k phase valid fits structured sent before heard t.0 j e in
         column-on (size_of job (shape job k).domain) (size_of job (shape job k).rows) (piece_of job (shape job k) me (structure job files k)) t.0 j low.0 low.1 e
 
     back : (j : ℕ) → stands j (rank_columns job files k me) ≡ true → stands j (all_columns fill) ≡ true

@@ -74,7 +74,7 @@ module _ {S : Type 0} {R : Semiring S} {F : Conversions S} {job : Job} {files : 
   module _ (rows_ok : IsRowCells fill) where
     columns-are : all_columns fill ≡ rank_columns job files k me
     columns-are =
-        fills-have-columns R F job files me pieces given k can.phase fill valid can.at.input.fitting can.at.built can.structured can.sent can.heard rows_ok can.filled
+        fills-have-columns R F job files me pieces given k can.phase fill valid can.at.input.fitting can.structured can.sent can.before can.heard rows_ok can.filled
 
     pub columns-listed : (columns : List ℕ) → columns ≡ all_columns fill → columns ≡ rank_list_by job files (ColumnPlan k) book.me
     columns-listed columns e = e ∙ columns-are ∙ ap (rank_columns job files k) (sym can.me_is)

@@ -68,7 +68,7 @@ pub record Serves (job : Job) (files : List File) (me source target : ℕ) (t : 
   pub serves : IsServing job files t me (list_of job source me) (list_of job target me) plan
   pub few_rows : HasFewRows plan
 
-import-serves : (job : Job) (files : List File) (me source target : ℕ) (plan : PlanLists) → IsValid job → IsJobImport job files source target me plan
+pub import-serves : (job : Job) (files : List File) (me source target : ℕ) (plan : PlanLists) → IsValid job → IsJobImport job files source target me plan
     → Serves job files me source target (from_owners (ImportPlan source target)) plan
 import-serves job files me source target plan valid is = record {
   serves =

@@ -21,3 +21,6 @@ pub mod ApplySums
 pub mod ApplyAnswers
 pub mod ApplyMade
 pub mod Makings
+pub mod GatheredRows
+pub mod SumsHere
+pub mod CopiedFills

@@ -93,7 +93,7 @@ module _ {S : Type 0} (R : Semiring S) (F : Conversions S) (e : Scene S) (pieces
       pub rows-no-vector : (x : Piece S) (a : VectorState S) → x ≡ get_or pieces v x → x ≡ Vector a → ⊥
       rows-no-vector x a at vector = let one : Matrix sent-rows.0 ≡ Vector a = matrix-found x at ∙ vector in cc
 
-    pub rows-of-fill : (fill : RowCells S) → c.source ≡ row.Dealt fill → fill ≡ h.sent
+    pub rows-of-fill : (fill : RowCells S) → c.source ≡ row.Own fill → fill ≡ h.sent
     rows-of-fill fill is = subst (λ s. IsSentRows e.pieces s h.sent) is h.sent_is
 
     module _ (to : ℕ) (letter : HasLetterTo e to) where

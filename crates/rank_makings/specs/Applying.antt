@@ -19,7 +19,7 @@ use Rattle.rank_matrices.specs.Matrices.{source_list}
 use Rattle.rank_share.specs.declared.share.Share.{Share}
 use Rattle.rank_values.specs.Vectors.{global_table}
 use Rattle.dense_arrivals.specs.Applies.{got, mine}
-use Rattle.value_phases.specs.BuiltValues.{IsApply}
+use Rattle.value_phases.specs.ValueKinds.{IsApply}
 use Rattle.rank_pieces.specs.declared.pieces.Piece.{Piece}
 use Rattle.rank_pieces.specs.declared.pieces.Piece.TheVariants.{Vector, Matrix}
 use Rattle.rank_pieces.specs.declared.pieces.RankMatrix.{RankMatrix}

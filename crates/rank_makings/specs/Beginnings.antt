@@ -1,5 +1,5 @@
 -- What a rank has when the numbers of a value begin to come to it, and when the value is made.
-use Rattle.std.specs.Prelude.{◌≡◌, ◌<◌, ℕ, zero, suc, true, List, Option, None, Some}
+use Rattle.std.specs.Prelude.{◌≡◌, ◌<◌, ℕ, zero, suc, true, false, List, Option, None, Some}
 use Rattle.scalar_laws.specs.Semiring.{Semiring}
 use Rattle.scalar_laws.specs.Conversions.{Conversions}
 use Rattle.crs_matrix.specs.Rows.{RowCells}
@@ -19,19 +19,19 @@ use Rattle.plan_phases.specs.BookCalls.{IsSharedBook}
 use Rattle.plan_phases.specs.BookStages.{IsMadePlan}
 use Rattle.rank_plans.specs.Books.{Book, made_of}
 use Rattle.rank_share.specs.declared.share.Share.{Share}
-use Rattle.value_phases.specs.BuiltValues.{HasBuiltValues, IsAssembled}
+use Rattle.value_phases.specs.ValueKinds.{HasValueKinds, IsAssembled, IsSender}
 use Rattle.value_phases.specs.ValuePhases.{HasValuePhases, IsMapPlan, IsStructured}
 use Rattle.rank_pieces.specs.declared.pieces.Piece.{Piece}
 use Rattle.rank_pieces.specs.Inputs.{IsRankInput}
 use Rattle.rank_pieces.specs.Pieces.{AreOwnPieces}
-use Rattle.rank_makings.specs.Comings.{AreHeard, HaveCome, IsFilled}
+use Rattle.rank_makings.specs.Comings.{AreHeard, HaveCome, HaveRowsCome, IsFilled}
 
 module _ {S : Type 0} (R : Semiring S) (F : Conversions S) (job : Job) (files : List File) (me : ℕ) (share : Share) (shapes : List Shape) (pieces : List (Piece S)) (given : List Letter) where
   -- The rank has its pieces of the values before value k.
   pub record IsAt (k : ℕ) : Type 0 where
     pub input : IsRankInput F job files me share
     pub phased : HasValuePhases job
-    pub built : HasBuiltValues job
+    pub kinds : HasValueKinds job
     pub shapes_are : at_list shapes ≡ shape job
     pub below : k < value_count job
     pub pieces_are : AreOwnPieces R F job files me given k pieces
@@ -68,12 +68,22 @@ module _ {S : Type 0} (R : Semiring S) (F : Conversions S) (job : Job) (files : 
     pub heard : AreHeard job files me (suc phase) given
     pub have : HaveCome R F job files me pieces given k last came
 
+  -- A matrix can be made of the rows that came at its stage, or, where this is a sum on one map, of its own rows.
+  pub record CanFill (k : ℕ) (came : RowCells S) : Type 0 where
+    pub at : IsAt k
+    pub sparse : is_dense (shape job k).sort ≡ false
+    pub sender : IsSender job k
+    pub stage : ℕ
+    pub known : stage < stage_count job k
+    pub have : HaveRowsCome R F job files me pieces given k stage came
+
   -- A matrix can be completed once the plans of its structure were shared.
   pub record CanComplete (b : Book) (k : ℕ) (fill : RowCells S) : Type 0 where
     pub at : IsAt k
     pub structured : IsStructured job k
     pub phase : ℕ
     pub sent : (stage m : ℕ) → send_phase job k stage ≡ Some m → m < phase
+    pub before : (v stage m : ℕ) → v < k → send_phase job v stage ≡ Some m → m < phase
     pub heard : AreHeard job files me phase given
     pub me_is : b.me ≡ me
     pub columns : IsSharedBook R F job files b (ColumnPlan k)

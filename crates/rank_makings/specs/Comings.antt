@@ -55,10 +55,10 @@ abbrev pub IsCellSource : {S : Type 0} → List (Piece S) → CellSource S → V
 IsCellSource pieces (cell.Piece v) x = slice_get pieces v ≡ Some (Vector x)
 IsCellSource pieces (cell.Sums sums) x = sums ≡ x
 
--- the rows that are sent: those of a piece, or of the part that was dealt to the rank
+-- the rows that are sent: those of a piece, or rows of the rank's own: of the part that was dealt to it, or of its transpose
 abbrev pub IsSentRows : {S : Type 0} → List (Piece S) → RowSource S → RowCells S → Type 0
 IsSentRows {S} pieces (row.Piece v) a = (m : RankMatrix S) × (slice_get pieces v ≡ Some (Matrix m)) × (by_row m.matrix ≡ a)
-IsSentRows pieces (row.Dealt fill) a = fill ≡ a
+IsSentRows pieces (row.Own fill) a = fill ≡ a
 
 module _ {S : Type 0} (R : Semiring S) (F : Conversions S) (job : Job) (files : List File) (me : ℕ) (pieces : List (Piece S)) (given : List Letter) where
   -- what the rank has for others at a stage of value k
@@ -116,6 +116,11 @@ module _ {S : Type 0} (R : Semiring S) (F : Conversions S) (job : Job) (files : 
     pub map : v.map ≡ target_list job files me pieces (transfer_at job k stage)
     pub columns : v.columns ≡ (shape job k).columns
     pub table : global_table v ≡ gathered_so_far R F job files me given k stage
+
+  -- The rows of a matrix that came at a stage of value k: on the target list of the transfer, with all that was gathered.
+  pub record HaveRowsCome (k stage : ℕ) (a : RowCells S) : Type 0 where
+    pub rows : a.rows ≡ target_list job files me pieces (transfer_at job k stage)
+    pub table : row_table a ≡ gathered_so_far R F job files me given k stage
 
   -- A matrix of value k under construction, with the rank's rows and its places.
   pub record IsFilled (k : ℕ) (a : RowCells S) : Type 0 where

@@ -10,19 +10,14 @@ use Rattle.tables.specs.Tables.{Table}
 use Rattle.mm_text.specs.Reading.{File}
 use Rattle.peers.specs.Protocols.{Letter}
 use Rattle.model_defs.specs.declared.job.Job.{Job}
-use Rattle.crs_matrix.specs.Rows.{IsRowCells, RowCells, all_columns, row_table}
+use Rattle.crs_matrix.specs.Rows.{IsRowCells, RowCells, all_columns}
 use Rattle.model_defs.specs.Fitting.{IsFitting}
 use Rattle.model_defs.specs.Phases.{send_phase}
-use Rattle.model_defs.specs.Given.{dealt_part}
-use Rattle.model_defs.specs.Plans.{rank_columns, rank_rows}
+use Rattle.model_defs.specs.Plans.{rank_columns}
 use Rattle.model_defs.specs.Valid.{IsValid}
-use Rattle.rank_stages.specs.JobStages.{gathered_so_far}
-use Rattle.value_phases.specs.BuiltValues.{HasBuiltValues, IsGivenSplit}
 use Rattle.value_phases.specs.ValuePhases.{IsStructured}
 use Rattle.rank_pieces.specs.declared.pieces.Piece.{Piece}
 use Rattle.rank_makings.specs.declared.coming.Coming.{Coming}
-use Rattle.rank_makings.specs.declared.coming.Coming.TheVariants.{Rows}
-use Rattle.rank_makings.specs.declared.coming.RowsComing.{RowsComing}
 use Rattle.rank_makings.specs.Comings.{AreHeard, IsComing, IsComingIn, IsFilled, IsLetterFor, Scene}
 
 abbrev pub ComingsStay : {S : Type 0} → Semiring S → Conversions S → Type 0
@@ -31,26 +26,13 @@ ComingsStay {S} R F =
     → send_phase job k stage ≡ Some phase → phase ≤ l.0.phase
     → IsComing R F job files me pieces given k stage now c → IsComing R F job files me pieces (given ++ l ∷ []) k stage now c
 
--- A matrix under construction whose numbers came has the columns of the rank's column plan.
+-- A matrix under construction whose numbers came, as those of the values before it did, has the columns of the rank's column plan.
 abbrev pub FillsHaveColumns : {S : Type 0} → Semiring S → Conversions S → Type 0
 FillsHaveColumns {S} R F =
     (job : Job) (files : List File) (me : ℕ) (pieces : List (Piece S)) (given : List Letter) (k phase : ℕ) (fill : RowCells S) → IsValid job → IsFitting job files
-    → HasBuiltValues job
-    → IsStructured job k → ((stage m : ℕ) → send_phase job k stage ≡ Some m → m < phase) → AreHeard job files me phase given
+    → IsStructured job k → ((stage m : ℕ) → send_phase job k stage ≡ Some m → m < phase) → ((v stage m : ℕ) → v < k → send_phase job v stage ≡ Some m → m < phase)
+    → AreHeard job files me phase given
     → IsRowCells fill → IsFilled R F job files me pieces given k fill → all_columns fill ≡ rank_columns job files k me
-
--- The rows that came, once all did, are the rank's matrix under construction,
-abbrev pub RowsAreFilled : {S : Type 0} → Semiring S → Conversions S → Type 0
-RowsAreFilled {S} R F =
-    (job : Job) (files : List File) (me : ℕ) (pieces : List (Piece S)) (given : List Letter) (k stage m : ℕ) (now : Table S) (c : RowsComing S) → HasBuiltValues job
-    → send_phase job k stage ≡ Some m → IsComing R F job files me pieces given k stage now (Rows c)
-    → now ≡ gathered_so_far R F job files me given k stage → IsFilled R F job files me pieces given k c.arriving.fill
-
--- and of a matrix that is split its part is.
-abbrev pub PartsAreFilled : {S : Type 0} → Semiring S → Conversions S → Type 0
-PartsAreFilled {S} R F =
-    (job : Job) (files : List File) (me : ℕ) (pieces : List (Piece S)) (given : List Letter) (k : ℕ) (fill : RowCells S) → IsGivenSplit job k
-    → fill.rows ≡ rank_rows job files k me → row_table fill ≡ dealt_part R F job files k me → IsFilled R F job files me pieces given k fill
 
 -- The words of its letters have room,
 abbrev pub WordsAreFew : Type 0

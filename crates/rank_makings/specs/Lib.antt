@@ -5,3 +5,4 @@ pub mod Copying
 pub mod Completing
 pub mod Laws
 pub mod Applying
+pub mod Gathering

@@ -1,18 +1,16 @@
 //! The apply of a matrix to a vector.
-ghost use Rattle.std.specs.Prelude.{◌≡◌, ℕ, Bool, true, false, not, None, Some, List, IfOk, slice_get};
+ghost use Rattle.std.specs.Prelude.{◌≡◌, ℕ, true, false, None, Some, List, IfOk};
 ghost use Rattle.tables.specs.Indices.{AreBelow};
-ghost use Rattle.map_core.specs.Plans.{PlanLists};
 ghost use Rattle.mm_text.specs.Reading.{File};
 ghost use Rattle.crs_matrix.specs.Matrices.{crs_table};
 ghost use Rattle.multivector.specs.Vectors.{IsVector, VectorState};
 ghost use Rattle.peers.specs.Protocols.{Letter};
-ghost use Rattle.model_defs.specs.FileMatrix.{number_of};
 ghost use Rattle.model_defs.specs.Makers.{maker_of};
 ghost use Rattle.model_defs.specs.Operations.{combination, grown, product};
 ghost use Rattle.rank_matrices.specs.Matrices.{source_list};
 ghost use Rattle.rank_share.specs.declared.share.Share.{Share};
 ghost use Rattle.rank_values.specs.Vectors.{global_table};
-ghost use Rattle.value_phases.specs.BuiltValues.{IsApply};
+ghost use Rattle.value_phases.specs.ValueKinds.{IsApply};
 ghost use Rattle.rank_pieces.specs.declared.pieces.Piece.TheVariants.{Matrix, Vector};
 ghost use Rattle.rank_pieces.specs.declared.pieces.RankMatrix.{RankMatrix};
 ghost use Rattle.rank_pieces.specs.Pieces.{IsOwnPiece};
@@ -22,8 +20,9 @@ ghost use Rattle.rank_makings.specs.Beginnings.{CanBegin, CanFinish};
 ghost use Rattle.rank_makings.specs.Comings.{IsComing, first_gathered};
 
 use crate::coming::{CellSource, CellsComing, Coming};
+use crate::operands::{factor, matrix_at, plan_of, vector_at};
 use combine_modes::Mode;
-use map_core::{LocalMap, Plan};
+use map_core::LocalMap;
 use model_defs::{Job, Shape, Step};
 use multivector::MultiVector;
 use phase_list::{MadeBy, maker_at};
@@ -32,7 +31,7 @@ use rank_pieces::{Piece, RankMatrix};
 use rank_plans::PlanBook;
 use rank_share::{Share, own_map};
 use rank_transfers::Arriving;
-use rank_values::{number_of, sum_of_vectors, vector_of_lines};
+use rank_values::{sum_of_vectors, vector_of_lines};
 use scalar_laws::Scalar;
 use std::alloc::{AllocError, Global};
 use std::rc::Rc;
@@ -86,35 +85,6 @@ fn operands_of(job: &Job, k: usize) -> Operands
     }
 }
 
-/// The number of a factor.
-fn factor<S: Scalar>(value: i64) -> S
-    ensures number { result ≡ number_of S.semiring S.conversions value }
-{
-    number_of(value as i128)
-}
-
-/// The piece of this number, which is a vector.
-fn vector_at<S: Scalar>(pieces: &[Piece<S>], k: usize) -> &MultiVector<S>
-    requires vector { (v : VectorState S) × (slice_get pieces.now k ≡ Some (Vector v)) }
-    ensures at { slice_get pieces.now k ≡ Some (Vector result.now) }
-{
-    match &pieces[k] {
-        Piece::Vector(vector) => vector,
-        Piece::Matrix(_) => unreachable!(),
-    }
-}
-
-/// The piece of this number, which is a matrix.
-fn matrix_at<S: Scalar>(pieces: &[Piece<S>], k: usize) -> &RankMatrix<S>
-    requires matrix { (m : RankMatrix S) × (slice_get pieces.now k ≡ Some (Matrix m)) }
-    ensures at { slice_get pieces.now k ≡ Some (Matrix result.now) }
-{
-    match &pieces[k] {
-        Piece::Matrix(m) => m,
-        Piece::Vector(_) => unreachable!(),
-    }
-}
-
 /// Whether copies of x come to the rank first.
 fn starts_with_copies<S: Scalar>(m: &RankMatrix<S>, transposed: bool) -> bool
     ensures copies { result ≡ starts_with_copies m.now.rows transposed }
@@ -132,21 +102,6 @@ fn ends_with_copies<S: Scalar>(m: &RankMatrix<S>, transposed: bool) -> bool
     match &m.rows {
         Some(_) => false,
         None => !transposed,
-    }
-}
-
-/// The plan of the rows of a matrix that is split, or that of the columns of a matrix.
-fn plan_of<S: Scalar>(m: &RankMatrix<S>, rows: bool) -> &Plan
-    requires split { rows ≡ true → (plan : PlanLists) × (m.now.rows ≡ Some plan) }
-    ensures columns { rows ≡ false → result.now ≡ m.now.columns }
-    ensures rows { rows ≡ true → m.now.rows ≡ Some result.now }
-{
-    if !rows {
-        return &m.columns;
-    }
-    match &m.rows {
-        Some(plan) => plan,
-        None => unreachable!(),
     }
 }
 

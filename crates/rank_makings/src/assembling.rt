@@ -2,7 +2,7 @@
 ghost use Rattle.std.specs.Prelude.{◌≡◌, ℕ, List, IfOk};
 ghost use Rattle.mm_text.specs.Reading.{File};
 ghost use Rattle.peers.specs.Protocols.{Letter};
-ghost use Rattle.value_phases.specs.BuiltValues.{IsAssembled};
+ghost use Rattle.value_phases.specs.ValueKinds.{IsAssembled};
 ghost use Rattle.rank_makings.specs.Beginnings.{CanBegin};
 ghost use Rattle.rank_makings.specs.Comings.{IsComing, first_gathered};
 
@@ -46,6 +46,6 @@ pub(crate) fn begin_assembled<S: Scalar>(
     let rows = own_map(alloc, job, shapes[k].rows, me)?;
     let empty = MatrixFill::new(alloc, rows)?;
     let arriving = ArrivingRows::begin(kept.reverse(), &dealt, empty, Mode::Add)?;
-    let source = RowSource::Dealt(dealt);
+    let source = RowSource::Own(dealt);
     Ok(Coming::Rows(RowsComing { source, arriving }))
 }

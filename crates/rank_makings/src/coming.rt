@@ -21,11 +21,12 @@ pub enum CellSource<S> {
     Sums(MultiVector<S>),
 }
 
-/// Whose rows are sent: those of the piece of a value, or the part of a matrix that was dealt to the rank.
+/// Whose rows are sent: those of the piece of a value, or rows of the rank's own: the part of a matrix that was dealt to it, or the
+/// transpose of the rows that it holds.
 #[derive(Drop)]
 pub enum RowSource<S> {
     Piece(usize),
-    Dealt(MatrixFill<S>),
+    Own(MatrixFill<S>),
 }
 
 /// Cells of a vector or of parts that come.
@@ -99,7 +100,7 @@ fn pack_rows<S: Scalar>(
             }
             Piece::Vector(_) => unreachable!(),
         },
-        RowSource::Dealt(fill) => {
+        RowSource::Own(fill) => {
             fill_is_source(fill);
             coming.arriving.pack(fill, to, pool)
         }

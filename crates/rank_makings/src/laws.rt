@@ -1,5 +1,5 @@
 //! Laws of values in the making. Each function has an empty body: what it proves is its contract.
-ghost use Rattle.rank_makings.specs.Laws.{ComingsStay, FillsHaveColumns, LettersHaveForm, PartsAreFilled, RowsAreFilled, WordsAreFew};
+ghost use Rattle.rank_makings.specs.Laws.{ComingsStay, FillsHaveColumns, LettersHaveForm, WordsAreFew};
 
 use scalar_laws::Scalar;
 
@@ -11,10 +11,7 @@ pub fn comings_stay<S: Scalar>()
     ensures forms { LettersHaveForm S.semiring S.conversions }
 {}
 
-/// The rows that came, and the part of a matrix that is split, are the rank's matrix under construction, which has the columns of the
-/// rank's column plan.
-pub fn rows_are_filled<S: Scalar>()
-    ensures rows { RowsAreFilled S.semiring S.conversions }
-    ensures parts { PartsAreFilled S.semiring S.conversions }
+/// A matrix under construction has the columns of the rank's column plan.
+pub fn fills_have_columns<S: Scalar>()
     ensures columns { FillsHaveColumns S.semiring S.conversions }
 {}

@@ -13,6 +13,7 @@ use crate::applying::{begin_apply, finished_apply, is_applied};
 use crate::assembling::begin_assembled;
 use crate::completing::{on_columns, row_plan};
 use crate::copies::begin_copy;
+use crate::gathering::{begin_made, is_made_matrix};
 use crs_matrix::MatrixFill;
 use model_defs::{Job, Plan, Shape, Step};
 use multivector::MultiVector;
@@ -45,6 +46,10 @@ pub fn begin_coming<S: Scalar>(
 {
     if is_applied(job, k) {
         return begin_apply(alloc, job, me, share, shapes, book, pieces, came, k, stage);
+    }
+    if is_made_matrix(job, k) {
+        let rows = begin_made(alloc, job, me, share, shapes, book, pieces, &came, k, stage)?;
+        return Ok(Coming::Rows(rows));
     }
     match maker_at(job, k) {
         MadeBy::Matrix(_) => begin_assembled(

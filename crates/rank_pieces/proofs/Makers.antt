@@ -18,8 +18,6 @@ use Rattle.model_defs.specs.Valid.{IsValid, IsValidMaker}
 use Rattle.model_defs.proofs.KnownShapes.{shape-of-made}
 use Rattle.rank_share.specs.Shares.{cell_count}
 use Rattle.rank_share.proofs.Positions.{cells-before, maker-vector, maker-parts}
-use Rattle.value_phases.specs.BuiltJobs.{IsBuiltJob, IsBuiltStep}
-use Rattle.value_phases.specs.BuiltValues.{IsBuiltMaker}
 use Rattle.value_phases.specs.ValuePhases.{IsStructured}
 
 abbrev no_vector : VectorSpec
@@ -180,43 +178,3 @@ module _ (job : Job) where
         loose : (b : Bool) → is_dense (cond b sort.Split sort.Matrix) ≡ false
         loose true = refl
         loose false = refl
-
--- ---- statements that are carried out by now
-
-vectors-each : (specs : List VectorSpec) → All IsBuiltMaker (map GivenVector specs)
-vectors-each [] k d l = absurd (omega arith)
-vectors-each (x ∷ xs) zero d l = tt
-vectors-each (x ∷ xs) (suc k) d l = vectors-each xs k d (omega arith)
-
-parts-each : (specs : List PartsSpec) → All IsBuiltMaker (map GivenParts specs)
-parts-each [] k d l = absurd (omega arith)
-parts-each (x ∷ xs) zero d l = tt
-parts-each (x ∷ xs) (suc k) d l = parts-each xs k d (omega arith)
-
-matrices-each : (specs : List MatrixSpec) → All IsBuiltMaker (map GivenMatrix specs)
-matrices-each [] k d l = absurd (omega arith)
-matrices-each (x ∷ xs) zero d l = tt
-matrices-each (x ∷ xs) (suc k) d l = matrices-each xs k d (omega arith)
-
-made-each : (steps : List Step) → All IsBuiltStep steps → All IsBuiltMaker (map Made (filter gives_value steps))
-made-each [] h = λ k d l. absurd (omega arith)
-made-each (s ∷ ss) h = by (gives_value s) (made-each ss (λ k d l. h (suc k) d (omega arith))) (h 0 s (omega arith))
-  where
-    with_first : (ms : List Maker) → All IsBuiltMaker ms → IsBuiltStep s → All IsBuiltMaker (Made s ∷ ms)
-    with_first ms rest here zero d l = here
-    with_first ms rest here (suc k) d l = rest k d (omega arith)
-
-    by : (b : Bool) → All IsBuiltMaker (map Made (filter gives_value ss)) → IsBuiltStep s → All IsBuiltMaker (map Made (cond b (s ∷ filter gives_value ss) (filter gives_value ss)))
-    by true rest here = with_first (map Made (filter gives_value ss)) rest here
-    by false rest here = rest
-
-all-makers : (job : Job) → IsBuiltJob job → All IsBuiltMaker (makers job)
-all-makers job built =
-    All-append IsBuiltMaker (map GivenVector job.vectors ++ map GivenParts job.parts ++ map GivenMatrix job.matrices) (map Made (filter gives_value job.steps))
-    (All-append IsBuiltMaker (map GivenVector job.vectors ++ map GivenParts job.parts) (map GivenMatrix job.matrices)
-    (All-append IsBuiltMaker (map GivenVector job.vectors) (map GivenParts job.parts) (vectors-each job.vectors) (parts-each job.parts))
-    (matrices-each job.matrices))
-    (made-each job.steps built)
-
-pub built-step : (job : Job) → IsBuiltJob job → (k : ℕ) → k < value_count job → (s : Step) → maker_of job k ≡ Made s → IsBuiltStep s
-built-step job built k known s e = subst IsBuiltMaker e (all-makers job built k (Made (step.Print 0)) known)

@@ -27,7 +27,7 @@ use Rattle.matrix_arrivals.specs.RowsBegun.{is_plain}
 use Rattle.matrix_arrivals.proofs.Begun.{plain-rows-are-added}
 
 -- the rows of a matrix's own list are all its rows
-own-places : {S : Type 0} (x : Crs S) (test : ℕ → Bool) → ((i : ℕ) → stands i x.graph.rows ≡ true → test i ≡ true) → only_rows test (crs_table x) ≡ crs_table x
+pub own-places : {S : Type 0} (x : Crs S) (test : ℕ → Bool) → ((i : ℕ) → stands i x.graph.rows ≡ true → test i ≡ true) → only_rows test (crs_table x) ≡ crs_table x
 own-places {S} x test h = λ t i j. by i j (local_index x.graph.rows i) refl t
   where
     nothing : (b : Bool) → cond {A = Option S} b None None ≡ None
@@ -41,7 +41,7 @@ own-places {S} x test h = λ t i j. by i j (local_index x.graph.rows i) refl t
     by i j (Some l) e = ap (λ b. cond b (crs_table x i j) None) (h i (some_stands x.graph.rows i l e))
 
 -- what comes for an absent place is there then
-added-to-none : {S : Type 0} (R : Semiring S) → IsSemiring R → (o : Option S) → after_one R modes.Add false None o ≡ o
+pub added-to-none : {S : Type 0} (R : Semiring S) → IsSemiring R → (o : Option S) → after_one R modes.Add false None o ≡ o
 added-to-none R laws None = refl
 added-to-none R laws (Some v) = ap (λ x. Some x) (laws.plus_comm v R.nought ∙ laws.plus_nought v)
 

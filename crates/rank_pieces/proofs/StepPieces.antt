@@ -31,7 +31,9 @@ use Rattle.rank_share.specs.declared.share.Share.{Share}
 use Rattle.rank_transfers.specs.Arrivals.{after_table}
 use Rattle.rank_transfers.proofs.Local.{local-exports-are-made, local-imports-are-made, local-moves-are-made, local-spreads-are-made}
 use Rattle.rank_values.specs.Vectors.{global_table}
-use Rattle.value_phases.specs.BuiltJobs.{IsBuiltStep}
+use Rattle.value_phases.specs.ValueKinds.{IsMadeMatrix, is_matrix_step}
+use Rattle.value_phases.specs.ValuePhases.{IsStructured}
+use Rattle.value_phases.proofs.MadeMatrices.{made-matrices-have-operands}
 use Rattle.rank_pieces.specs.declared.pieces.Piece.{Piece}
 use Rattle.rank_pieces.specs.declared.pieces.Piece.TheVariants as of
 use Rattle.rank_pieces.specs.declared.pieces.RankMatrix.{RankMatrix}
@@ -118,27 +120,37 @@ module _ {S : Type 0} (R : Semiring S) (F : Conversions S) (laws : IsSemiring R)
     columns = a.is.columns ∙ columns ∙ sym b.is.columns;
   }
 
-  pub can-make : (s : Step) → maker_of job n ≡ Made s → IsBuiltStep s → CanMake pieces s
-  can-make (step.Move name source m) maker built = there source (valid-step (step.Move name source m) maker).0
-  can-make (step.Import name source onto mode) maker built =
+  -- a matrix of other places has a structure of its own
+  no-matrix : is_matrix_step (maker_of job n) ≡ true → ⊥
+  no-matrix e = by (made-matrices-have-operands job n input.valid known e)
+    where
+      by : IsMadeMatrix job n → ⊥
+      by (inl is) = here.shared is.made.structured
+      by (inr (inl is)) = here.shared is.made.structured
+      by (inr (inr (inl is))) = here.shared is.made.structured
+      by (inr (inr (inr is))) = here.shared is.made.structured
+
+  pub can-make : (s : Step) → maker_of job n ≡ Made s → CanMake pieces s
+  can-make (step.Move name source m) maker = there source (valid-step (step.Move name source m) maker).0
+  can-make (step.Import name source onto mode) maker =
       let s = step.Import name source onto mode in
       let ok = valid-step s maker in
       alike source onto (vector-at source ok.0.0 (ap is_dense ok.0.1)) (vector-at onto ok.1.0 (ap is_dense ok.1.1)) (import-rows s source (shape job onto).rows maker refl) ok.3
-  can-make (step.Export name source onto mode) maker built =
+  can-make (step.Export name source onto mode) maker =
       let s = step.Export name source onto mode in
       let ok = valid-step s maker in
       alike source onto (vector-at source ok.0.0 (ap is_dense ok.0.1)) (vector-at onto ok.1.0 (ap is_dense ok.1.1)) (export-rows s source (shape job onto).rows maker refl) ok.3
-  can-make (step.Spread name source m) maker built = there source (valid-step (step.Spread name source m) maker).0.0
-  can-make (step.Update name x y alpha beta) maker built =
+  can-make (step.Spread name source m) maker = there source (valid-step (step.Spread name source m) maker).0.0
+  can-make (step.Update name x y alpha beta) maker =
       let ok = valid-step (step.Update name x y alpha beta) maker in
       alike x y (vector-at x ok.0 ok.3) (vector-at y ok.1 (ap is_dense (sym ok.2) ∙ ok.3)) ok.4 ok.5
-  can-make (step.Scale name value alpha) maker built = there value (valid-step (step.Scale name value alpha) maker)
-  can-make (step.Print value) maker built = absurd (valid-step (step.Print value) maker)
-  can-make (step.Apply name a x y alpha beta transposed) maker built = absurd (no-apply job n known here name a x y alpha beta transposed maker)
-  can-make (step.Transpose name a) maker built = absurd built
-  can-make (step.Multiply name a b) maker built = absurd built
-  can-make (step.Add name a b alpha beta) maker built = absurd built
-  can-make (step.Assemble name source onto mode) maker built = absurd built
+  can-make (step.Scale name value alpha) maker = there value (valid-step (step.Scale name value alpha) maker)
+  can-make (step.Print value) maker = absurd (valid-step (step.Print value) maker)
+  can-make (step.Apply name a x y alpha beta transposed) maker = absurd (no-apply job n known here name a x y alpha beta transposed maker)
+  can-make (step.Transpose name a) maker = absurd (no-matrix (ap is_matrix_step maker))
+  can-make (step.Multiply name a b) maker = absurd (no-matrix (ap is_matrix_step maker))
+  can-make (step.Add name a b alpha beta) maker = absurd (no-matrix (ap is_matrix_step maker))
+  can-make (step.Assemble name source onto mode) maker = absurd (no-matrix (ap is_matrix_step maker))
 
   -- cells that stay on their map stay as they are
   kept-vector : (source : ℕ) (v : VectorState S) (p : Piece S) → source < n → IsOwnPiece R F job files me g source (of.Vector v) → IsSame (of.Vector v) p

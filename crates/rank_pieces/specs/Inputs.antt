@@ -8,13 +8,11 @@ use Rattle.model_defs.specs.Numbers.{HaveNumbers}
 use Rattle.model_defs.specs.Valid.{IsValid}
 use Rattle.rank_share.specs.declared.share.Share.{Share}
 use Rattle.rank_share.specs.Shares.{share as share_of}
-use Rattle.value_phases.specs.BuiltJobs.{IsBuiltJob}
 
 -- A valid job, files that fit it and whose integers have numbers of the kind, one of the ranks, and the share of the files
--- that it is given. By now it has no statement that makes a matrix of other places.
+-- that it is given.
 pub record IsRankInput {S : Type 0} (F : Conversions S) (job : Job) (files : List File) (me : ℕ) (share : Share) : Type 0 where
   pub valid : IsValid job
-  pub built : IsBuiltJob job
   pub fitting : IsFitting job files
   pub numbers : HaveNumbers F job files
   pub rank : me < job.ranks

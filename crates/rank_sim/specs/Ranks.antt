@@ -19,14 +19,12 @@ use Rattle.model_defs.specs.Fitting.{IsFitting}
 use Rattle.model_defs.specs.Machine.{job_protocol, piece}
 use Rattle.model_defs.specs.Numbers.{HaveNumbers}
 use Rattle.model_defs.specs.Valid.{IsValid}
-use Rattle.value_phases.specs.BuiltJobs.{IsBuiltJob}
 use Rattle.rank_core.specs.declared.rank.Rank.{Rank}
 use Rattle.rank_core.specs.Ranks.{IsFinished, IsRank}
 
--- A valid job and files that fit it, whose integers have numbers of the kind. By now it has no statement that makes a matrix of other places.
+-- A valid job and files that fit it, whose integers have numbers of the kind.
 pub record IsRunInput {S : Type 0} (F : Conversions S) (job : Job) (files : List File) : Type 0 where
   pub valid : IsValid job
-  pub built : IsBuiltJob job
   pub fitting : IsFitting job files
   pub numbers : HaveNumbers F job files
 

@@ -7,7 +7,7 @@
 //!
 //! `specs/Runs` says what a run comes to: the letters that were given, and the values that the ranks have of them. The module
 //! `laws` says that these are the values on the global data (`eval` of `model_defs`), in whatever order the letters are
-//! delivered. By now a job has no statement `transpose`, `multiply`, `add` or `assemble`.
+//! delivered.
 //!
 //! ```text
 //! let mut wire = MailRoom::new(alloc);

@@ -10,7 +10,6 @@ ghost use Rattle.model_defs.specs.Fitting.{IsFitting};
 ghost use Rattle.model_defs.specs.Machine.{job_protocol};
 ghost use Rattle.model_defs.specs.Numbers.{HaveNumbers};
 ghost use Rattle.model_defs.specs.Valid.{IsValid};
-ghost use Rattle.value_phases.specs.BuiltJobs.{IsBuiltJob};
 ghost use Rattle.rank_core.specs.Ranks.{IsRank};
 ghost use Rattle.rank_sim.specs.Ranks.{IsRunInput};
 ghost use Rattle.rank_sim.specs.Runs.{IsRan, is_wire_fault};
@@ -33,9 +32,8 @@ use std::rc::Rc;
 /// puts their pieces together.
 ///
 /// The job is valid, the files are those that it names, in the order of its values, and have the sizes that it states, and
-/// the wire has nothing pending. By now the statements are all but `Transpose`, `Multiply`, `Add` and `Assemble`. `Done` has the
-/// sheets of the printed values, `Over` comes exactly where a cell of some value is over, in each part of parts and of a split
-/// matrix, and `Undelivered` where a list ends before each letter was delivered.
+/// the wire has nothing pending. `Done` has the sheets of the printed values, `Over` comes exactly where a cell of some value is
+/// over, in each part of parts and of a split matrix, and `Undelivered` where a list ends before each letter was delivered.
 /// `NotInFlight` is as in `play` of `message_play`, `WireFault` comes only where the wire's count of faults rose, and `NoMem`
 /// is want of memory. After an `Err` letters may be pending. Job and files stay as they are.
 pub fn run<W: Wire>(
@@ -46,7 +44,6 @@ pub fn run<W: Wire>(
     order: &Order,
 ) -> Result<End, RunFault>
     requires valid { IsValid job.now.value }
-    requires built { IsBuiltJob job.now.value }
     requires fitting { IsFitting job.now.value (map file_of files.now) }
     requires none_pending { W.pending wire.old ≡ no_letters }
     ensures ran { IsRan weighed_semiring weighed_conversions job.now.value (map file_of files.now) order.now (wire_state W.pending W.posted W.taken W.given W.is_honest wire.old) (wire_state W.pending W.posted W.taken W.given W.is_honest wire.new) result }
@@ -69,7 +66,6 @@ pub fn run_with<S: Scalar + Drop, W: Wire>(
     order: &Order,
 ) -> Result<End, RunFault>
     requires valid { IsValid job.now.value }
-    requires built { IsBuiltJob job.now.value }
     requires fitting { IsFitting job.now.value (map file_of files.now) }
     requires numbers { HaveNumbers S.conversions job.now.value (map file_of files.now) }
     requires none_pending { W.pending wire.old ≡ no_letters }

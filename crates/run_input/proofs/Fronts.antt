@@ -4,7 +4,6 @@ use Rattle.std.proofs.lemmas.Bool.{cases_lt}
 use Rattle.std.proofs.lemmas.Bool.Decides.{nat_tests}
 use Rattle.std.proofs.lemmas.List.{length-take-le, take_all}
 use Rattle.job_text.specs.declared.fault.JobFault.TheVariants.{Limit}
-use Rattle.job_text.specs.declared.words.TheConstants.{TODAY}
 use Rattle.job_text.specs.Outcomes.{◌>>=◌}
 use Rattle.job_text.specs.Whole.{document_of, job_in, job_of}
 use Rattle.schedule.specs.declared.fault.ScheduleFault.TheVariants.{TooLong}
@@ -39,7 +38,7 @@ beyond k n h = grind (arith, nat_tests)
 
 -- a job text that is too long, and a schedule that is
 pub long_job : (text : List ℕ) → 1048576 < length text → job_of text ≡ Err (Limit (codes "job"))
-long_job text h = ap (λ b. cond b (document_of text >>= job_in TODAY) (Err (Limit (codes "job")))) (not_within 1048576 (length text) h)
+long_job text h = ap (λ b. cond b (document_of text >>= job_in) (Err (Limit (codes "job")))) (not_within 1048576 (length text) h)
 
 pub long_schedule : (text : List ℕ) → 67108864 < length text → schedule_of text ≡ Err TooLong
 long_schedule text h = ap (λ b. cond b (Err TooLong) (entries_of (kept_from mark 1 (lines_of true text)))) (beyond 67108864 (length text) h)

@@ -10,7 +10,6 @@ use Rattle.model_defs.specs.Fitting.{IsFitting}
 use Rattle.job_text.specs.Whole.{job_of}
 use Rattle.job_files.specs.Walk.{file_names_read}
 use Rattle.run_words.specs.Given.{DeliveryOrder}
-use Rattle.value_phases.specs.BuiltJobs.{IsBuiltJob}
 use Rattle.run_input.specs.declared.fault.InputFault.{InputFault}
 use Rattle.run_input.specs.declared.texts.ReadText.{ReadText}
 use Rattle.run_input.specs.declared.texts.Texts.{Texts}
@@ -20,7 +19,7 @@ use Rattle.run_input.specs.Sources.{SomeSource}
 use Rattle.run_input.specs.Texts.{AreRead, GivesText, GivesTexts}
 use Rattle.run_input.specs.Walk.{Stop, fitting_files_at, input_of, job_at, order_at, reads_for, schedule_names}
 use Rattle.run_input.proofs.Stopping.{some-weaker}
-use Rattle.run_input.proofs.Walking.{all-given, files-fit, files-stop, job-built, job-read, job-stops, order-stops}
+use Rattle.run_input.proofs.Walking.{all-given, files-fit, files-stop, job-read, job-stops, order-stops}
 
 -- the job of a text that was read
 pub job-of-text : (source : Source) (name : List ℕ) (job : Job) (read : ReadText) → read.name.now ≡ name → job_of read.bytes.items ≡ Ok job → GivesText source read
@@ -67,8 +66,5 @@ module _ (told mid : Option Source) (name : List ℕ) (asked : DeliveryOrder) (t
   -- what is given can be run
   module _ (found : Vec FileData Global)
       (some : SomeSource mid (λ source. GivesTexts source texts × Answers found_files (file_names_read texts.job source) (fitting_files_at source texts.job_text.name.now texts.job) (Ok found))) where
-    pub read-built : IsBuiltJob texts.job
-    read-built = job-built some.source name texts.job (read.job some.source some.passes.0)
-
     pub read-fits : IsFitting texts.job (found_files found)
     read-fits = files-fit some.source texts.job_text.name.now texts.job (found_files found) some.passes.1

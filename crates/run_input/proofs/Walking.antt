@@ -7,13 +7,11 @@ use Rattle.model_defs.specs.declared.job.Job.{Job}
 use Rattle.model_defs.specs.Fitting.{IsFitting, first_unfit}
 use Rattle.model_defs.specs.Valid.{IsValid}
 use Rattle.job_text.specs.declared.fault.JobFault.{JobFault}
-use Rattle.job_text.specs.declared.words.TheConstants.{TODAY}
 use Rattle.job_text.specs.Whole.{job_of}
 use Rattle.job_files.specs.Walk as matrices
 use Rattle.job_fit.proofs.Fitted.{read-files-fit}
-use Rattle.job_validity.proofs.ReadJobs.{read-jobs-are-built, read-jobs-are-valid}
+use Rattle.job_validity.proofs.ReadJobs.{read-jobs-are-valid}
 use Rattle.run_words.specs.Given.{DeliveryOrder}
-use Rattle.value_phases.specs.BuiltJobs.{IsBuiltJob}
 use Rattle.run_input.specs.declared.fault.InputFault.{InputFault}
 use Rattle.run_input.specs.declared.fault.TextFault.TheVariants as text_fault
 use Rattle.run_input.specs.Answering.{Stops}
@@ -87,7 +85,7 @@ job-read source name text job named e =
 
 -- a job that was read is valid
 pub read-valid : (text : List ℕ) (job : Job) → job_of text ≡ Ok job → IsValid job
-read-valid text job e = read-jobs-are-valid TODAY text job e
+read-valid text job e = read-jobs-are-valid text job e
 
 -- ---- what is given can be run
 
@@ -110,10 +108,7 @@ pub job-text : (source : Source) (name : List ℕ) (job : Job) → job_at source
 job-text source name job e = has_job name (source name) job e
 
 pub job-valid : (source : Source) (name : List ℕ) (job : Job) → job_at source name ≡ Ok job → IsValid job
-job-valid source name job e = let t = job-text source name job e in read-jobs-are-valid TODAY t.0 job t.1
-
-pub job-built : (source : Source) (name : List ℕ) (job : Job) → job_at source name ≡ Ok job → IsBuiltJob job
-job-built source name job e = let t = job-text source name job e in read-jobs-are-built t.0 job t.1
+job-valid source name job e = let t = job-text source name job e in read-jobs-are-valid t.0 job t.1
 
 files_found : (r : Result (List File) matrices.Stop) (files : List File) → files_or_stop r ≡ Ok files → r ≡ Ok files
 files_found (Ok found) files e = let same : found ≡ files = cc in ap Ok same
@@ -157,10 +152,6 @@ module _ (source : Source) (name : List ℕ) (asked : DeliveryOrder) (input : In
   pub given-valid : IsValid input.job
   unfolding whole
   given-valid = subst (λ (i : Input). IsValid i.job) same (job-valid source name a.first a.is)
-
-  pub given-built : IsBuiltJob input.job
-  unfolding whole
-  given-built = subst (λ (i : Input). IsBuiltJob i.job) same (job-built source name a.first a.is)
 
   pub given-fits : IsFitting input.job input.files
   unfolding whole

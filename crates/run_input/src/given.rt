@@ -3,7 +3,6 @@ ghost use Rattle.std.specs.Prelude.{IfOk, map};
 ghost use Rattle.mm_text.specs.Reading.{file_of};
 ghost use Rattle.model_defs.specs.Fitting.{IsFitting};
 ghost use Rattle.model_defs.specs.Valid.{IsValid};
-ghost use Rattle.value_phases.specs.BuiltJobs.{IsBuiltJob};
 ghost use Rattle.run_words.specs.Seen.{order_view};
 ghost use Rattle.run_input.specs.Answering.{GivesInput};
 ghost use Rattle.run_input.specs.Reading.{ReadsMany};
@@ -51,9 +50,8 @@ pub fn read_given<'a, F: Files>(
     // What is answered is what one source gives: the job, its files and the order, or the first refusal.
     ensures gives { SomeSource (F.told files.old) (λ source. GivesInput source job.now (order_view order.entry) result) }
 
-    // What is given can be run: the job is valid, all of its statements are built, and the files fit it.
+    // What is given can be run: the job is valid, and the files fit it.
     ensures valid { IfOk result (λ given. IsValid given.job.value) }
-    ensures built { IfOk result (λ given. IsBuiltJob given.job.value) }
     ensures fitting { IfOk result (λ given. IsFitting given.job.value (map file_of given.files.items)) }
 {
     let texts = match read_texts(alloc, files, job, order) {

@@ -2,3 +2,4 @@ pub mod Steps
 pub mod Pieces
 pub mod Leading
 pub mod JobListing
+mod Sums

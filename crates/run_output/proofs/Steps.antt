@@ -107,3 +107,10 @@ pub put-first : {S T E : Type 0} (told : S → Option (List ℕ)) (faults : S �
 put-first told faults old new front one other r is e prefix fault never =
     Writes-failed told faults old old new (one ++ other) r is refl
     (TakesPrefix-append (told old) (told new) one other (TakesPrefix-is (told old) (told new) (front ++ one) one (ap (λ (t : List ℕ). t ++ one) e) prefix)) fault never
+
+-- the one text was put in part
+pub put-only : {S T E : Type 0} (told : S → Option (List ℕ)) (faults : S → ℕ) (old new : S) (front one : List ℕ) (r : Result T E) → IsErr r → front ≡ [] →
+    TakesPrefix (told old) (told new) (front ++ one) → Rose (faults old) (faults new) → faults old ≤ faults new → Writes told faults old new one r
+put-only told faults old new front one r is e prefix fault never =
+    Writes-failed told faults old old new one r is refl
+    (TakesPrefix-is (told old) (told new) (front ++ one) one (ap (λ (t : List ℕ). t ++ one) e) prefix) fault never

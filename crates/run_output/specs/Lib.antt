@@ -1,3 +1,4 @@
 pub mod Pieces
 pub mod Pages
 pub mod Listings
+pub mod Summaries

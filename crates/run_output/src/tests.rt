@@ -1,7 +1,8 @@
 //! Listings that reach a sink.
-use crate::write_traffic;
+use crate::{Summary, summary_of, write_summary, write_traffic};
 use letter_codec::Kind;
-use model_defs::{LetterLine, PhaseLine, Text};
+use mm_text::Shown;
+use model_defs::{LetterLine, ListOf, PhaseLine, Sheet, SheetKind, Text};
 use outside::{MemSink, Name};
 use std::alloc::{AllocError, Global};
 use std::test::Fail;
@@ -70,5 +71,64 @@ fn a_failed_write_leaves_a_prefix(rt: HostRuntime) -> Result<(), Fail> {
     let mut sink = MemSink::new(rt.alloc(), 15)?;
     assert!(rt; write_traffic(&mut sink, &phases, &[]).is_err());
     assert_eq!(rt; sink.bytes(), b"traffic 1 0\npha".as_slice());
+    Ok(())
+}
+
+/// A sheet of one column with these values.
+fn sheet(alloc: Global, values: &[i128]) -> Result<Sheet, AllocError> {
+    let mut cells = Vec::new(alloc);
+    for value in values {
+        cells.push(Shown {
+            row: 0,
+            col: 0,
+            value: *value,
+        })?;
+    }
+    Ok(Sheet {
+        kind: SheetKind::Array,
+        rows: 1,
+        cols: 1,
+        part: None,
+        cells: ListOf::new(cells),
+    })
+}
+
+/// The summary of three sheets of these values, with two letters.
+fn summary(
+    alloc: Global,
+    y: &[i128],
+    s: &[i128],
+    z: &[i128],
+) -> Result<Option<Summary>, AllocError> {
+    let mut sheets = Vec::new(alloc);
+    sheets.push(sheet(alloc, y)?)?;
+    sheets.push(sheet(alloc, s)?)?;
+    sheets.push(sheet(alloc, z)?)?;
+    let letters = [letter(0, 0, 1, 1), letter(0, 1, 0, 20)];
+    Ok(summary_of(7, &sheets, &letters))
+}
+
+#[test]
+fn a_summary_has_its_sums(rt: HostRuntime) -> Result<(), Fail> {
+    let found = summary(rt.alloc(), &[5, -8], &[1, 1, 1], &[40, 2, 0])?;
+    let found = found.expect(&rt, "no sum is over");
+    let mut sink = MemSink::new(rt.alloc(), 1000)?;
+    write_summary(&mut sink, &found).expect(&rt, "room");
+    assert_eq!(rt;
+        sink.bytes(),
+        b"gen 7\nentries 3\nsum -3 42\nletters 2\n".as_slice()
+    );
+    let mut small = MemSink::new(rt.alloc(), 0)?;
+    assert!(rt; write_summary(&mut small, &found).is_err());
+    Ok(())
+}
+
+#[test]
+fn magnitudes_may_exceed_the_limit(rt: HostRuntime) -> Result<(), Fail> {
+    let most = i128::MAX;
+    assert!(rt; summary(rt.alloc(), &[most], &[], &[-most])?.is_some());
+    assert!(rt; summary(rt.alloc(), &[most, -1], &[], &[0])?.is_none());
+    assert!(rt; summary(rt.alloc(), &[0], &[], &[1, -most])?.is_none());
+    assert!(rt; summary(rt.alloc(), &[0], &[], &[i128::MIN])?.is_none());
     Ok(())
 }

@@ -1,9 +1,8 @@
 -- What the status of a command says, by its answer.
-use Rattle.std.proofs.Common.{◌≡◌, ◌⊎◌, inl, inr, ℕ, Bool, IsTrue, List, Option, Result, Ok, Err, OnOk, IfErr, refl, sym, ap, subst, arith}
+use Rattle.std.proofs.Common.{◌≡◌, ◌⊎◌, inl, inr, ℕ, Bool, List, Option, Result, Ok, Err, OnOk, IfErr, refl, sym, ap, subst, arith}
 use Rattle.outside.specs.Reads.{Source}
 use Rattle.message_play.specs.Plays.{WireState}
 use Rattle.run_input.specs.Reading.{name_text}
-use Rattle.outside.specs.Faults.{Rose}
 use Rattle.tpx.specs.declared.fault.Fault.{Fault}
 use Rattle.tpx.specs.declared.fault.Fault.TheVariants.{Memory, NoCommand, Unread, Unwritten, Refused, Undelivered, Overflow, WrongLine, WireFailed}
 use Rattle.tpx.specs.Calls.{SomeCall}

@@ -6,6 +6,7 @@ pub mod Showing
 pub mod Played
 pub mod Outputs
 pub mod RunCalls
+pub mod GeneratedCalls
 pub mod Ended
 pub mod Examples
 mod ModeExamples

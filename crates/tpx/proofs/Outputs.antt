@@ -1,7 +1,6 @@
 -- What a run writes.
-use Rattle.std.proofs.Common.{◌≡◌, Bool, true, false, cond, List, [], ◌++◌, map, Result, Ok, Err, IfErr, refl, sym, ap, ◌∙◌, subst}
+use Rattle.std.proofs.Common.{◌≡◌, Bool, true, false, cond, List, [], ◌++◌, refl, ap, ◌∙◌}
 use Rattle.std.specs.List.{flat_map}
-use Rattle.std.proofs.lemmas.List.{append-nil}
 use Rattle.scalar_laws.specs.declared.weighed.Weighed.{Weighed}
 use Rattle.scalar_laws.specs.Weighed.{weighed_conversions}
 use Rattle.model_defs.specs.Pieces.{Value}
@@ -12,7 +11,6 @@ use Rattle.rank_sim.specs.declared.ends.Outcome.{Outcome}
 use Rattle.rank_sim.specs.Runs.{IsOutcome}
 use Rattle.run_input.specs.Walk.{Input}
 use Rattle.run_output.specs.Listings.{listing}
-use Rattle.run_output.specs.Pages.{page_text}
 use Rattle.run_output.proofs.JobListing.{listing-of}
 use Rattle.tpx.specs.declared.output.Output.{Output}
 use Rattle.tpx.specs.Endings.{listing_if, result_text}

@@ -1,8 +1,6 @@
 -- What the play of the ranks answers, by the run.
-use Rattle.std.proofs.Common.{◌≡◌, true, false, IsTrue, ℕ, List, Result, Ok, Err, refl, sym, ap, subst, ◌∙◌}
+use Rattle.std.proofs.Common.{◌≡◌, true, IsTrue, List, Result, Ok, Err, refl, sym, subst, ◌∙◌}
 use Rattle.mm_text.specs.Reading.{File}
-use Rattle.outside.specs.Letters.{no_letters}
-use Rattle.outside.specs.declared.name.Name.{Name}
 use Rattle.peers.specs.Protocols.{Protocol}
 use Rattle.schedule.specs.declared.order.Order.{Order}
 use Rattle.schedule.specs.declared.order.Order.TheVariants as order
@@ -25,7 +23,7 @@ use Rattle.run_input.specs.Orders.{order_given}
 use Rattle.run_input.specs.Walk.{Input}
 use Rattle.tpx.specs.Calls.{is_settled}
 use Rattle.tpx.specs.Faults.{result_status}
-use Rattle.tpx.specs.Runs.{deliveries_by, deliveries_of, end_of, ending_by, gathered, on_global_data, protocol_of}
+use Rattle.tpx.specs.Runs.{deliveries_by, end_of, ending_by, gathered, on_global_data, protocol_of}
 use Rattle.tpx.specs.Running.{AnswersRun, IsPlayedRun, outcome_of}
 
 -- an order as it is given

@@ -1,5 +1,5 @@
 -- What is answered for a file that was read.
-use Rattle.std.proofs.Common.{◌≡◌, ◌≤◌, ℕ, List, Option, Result, Err, refl}
+use Rattle.std.proofs.Common.{◌≡◌, ℕ, List, Option, Result, Err, refl}
 use Rattle.std.specs.Borrow.{Bor}
 use Rattle.outside.specs.Reads.{HasText, Reads, Source}
 use Rattle.mm_text.specs.declared.fault.MmFault.{MmFault}

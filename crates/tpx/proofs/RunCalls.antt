@@ -1,5 +1,5 @@
 -- What a run came to, at each of its steps.
-use Rattle.std.proofs.Common.{◌≡◌, ◌⊎◌, inl, inr, ℕ, Bool, true, false, cond, IsTrue, List, [], ◌++◌, Option, None, Some, option_map, Result, Ok, Err, IfErr, refl, sym, ap, ◌∙◌, subst, arith}
+use Rattle.std.proofs.Common.{◌≡◌, inl, inr, ℕ, Bool, true, false, cond, List, [], ◌++◌, Option, None, Some, option_map, Result, Ok, Err, IfErr, refl, sym, ap, ◌∙◌, subst, arith}
 use Rattle.std.proofs.lemmas.List.{append-nil}
 use Rattle.outside.specs.Letters.{no_letters}
 use Rattle.outside.specs.Reads.{AgreesWith, Source}
@@ -13,13 +13,11 @@ use Rattle.model_defs.specs.Pieces.{Value}
 use Rattle.model_defs.specs.Sheets.{is_any_over}
 use Rattle.model_defs.specs.Turns.{Each}
 use Rattle.rank_sim.specs.declared.ends.Outcome.{Outcome}
-use Rattle.rank_sim.specs.Runs.{IsOutcome}
 use Rattle.run_words.specs.Given.{RunCommand}
 use Rattle.run_input.specs.declared.fault.InputFault.{InputFault}
 use Rattle.run_input.specs.declared.fault.InputFault.TheVariants as fault
 use Rattle.run_input.specs.declared.given.Given.{Given}
 use Rattle.run_input.specs.Answering.{GivesInput, input_view}
-use Rattle.run_input.specs.Reading as given
 use Rattle.run_input.specs.Sources.{SomeSource}
 use Rattle.run_input.specs.Walk.{Input, Stop, input_of, reads_for}
 use Rattle.run_input.specs.Walk as walk
@@ -27,7 +25,7 @@ use Rattle.tpx.specs.declared.fault.Fault.{Fault}
 use Rattle.tpx.specs.declared.fault.Fault.TheVariants.{Memory, NoCommand, Unread, Unwritten, Refused, Undelivered, Overflow, WrongLine, WireFailed}
 use Rattle.tpx.specs.declared.output.Output.{Output}
 use Rattle.tpx.specs.Calls.{SomeCall, is_settled}
-use Rattle.tpx.specs.Endings.{Ending, EndsWith, complete_ending, ending, global_ending, input_if, no_command, no_file, ordered_ending, overflow, refused, reads, result_text, run_ending, run_input, undelivered, writes, wrong_line}
+use Rattle.tpx.specs.Endings.{Ending, EndsWith, input_if, no_command, ordered_ending, overflow, reads, result_text, run_ending, run_input, writes}
 use Rattle.tpx.specs.Faults.{result_status}
 use Rattle.tpx.specs.Runs.{IsRunOf, OnWire, deliveries_of, end_of, gathered, on_global_data, protocol_of}
 use Rattle.tpx.specs.Running.{AnswersRun, IsOutputOf, IsPlayedRun, output_text}
@@ -218,7 +216,7 @@ module _ {S : Type 0} (told : Option Source) (taken : S → Option (List ℕ)) (
 -- ---- calls without a run
 
 -- there is always a source that agrees
-some-source : (told : Option Source) → (source : Source) × AgreesWith told source
+pub some-source : (told : Option Source) → (source : Source) × AgreesWith told source
 some-source None = (λ name. None, tt)
 some-source (Some source) = (source, refl)
 
@@ -243,15 +241,21 @@ run-known told taken old now c settled before after (Err NoCommand) some h =
     run-command c.traffic (λ input. gathered input some.letters) (input_of some.source c.job c.order) some.passes
 run-known told taken old now c settled before after r some h = absurd h
 
--- where the ranks may have been played
+-- with the status of an answer where the ranks may have been played
+abbrev pub Plays : ℕ → Type 0
+Plays status = (status ≡ 2 → ⊥) × (status ≡ 3 → ⊥) × (status ≡ 5 → ⊥)
+
+pub has-status : (r : Result (Unit {0}) Fault) → HasPlayed r → Plays (result_status r)
+has-status (Ok x) h = (λ e. absurd (omega arith), λ e. absurd (omega arith), λ e. absurd (omega arith))
+has-status (Err Memory) h = (λ e. absurd (omega arith), λ e. absurd (omega arith), λ e. absurd (omega arith))
+has-status (Err Unwritten) h = (λ e. absurd (omega arith), λ e. absurd (omega arith), λ e. absurd (omega arith))
+has-status (Err (Undelivered names)) h = (λ e. absurd (omega arith), λ e. absurd (omega arith), λ e. absurd (omega arith))
+has-status (Err Overflow) h = (λ e. absurd (omega arith), λ e. absurd (omega arith), λ e. absurd (omega arith))
+has-status (Err (WrongLine line name)) h = (λ e. absurd (omega arith), λ e. absurd (omega arith), λ e. absurd (omega arith))
+has-status (Err WireFailed) h = (λ e. absurd (omega arith), λ e. absurd (omega arith), λ e. absurd (omega arith))
+has-status (Err NoCommand) h = absurd h
+has-status (Err (Unread file)) h = absurd h
+has-status (Err (Refused file f)) h = absurd h
+
 pub may-have : (c : RunCommand) (r : Result (Unit {0}) Fault) → HasPlayed r → MayHaveRun (Some (run c)) (result_status r)
-may-have c (Ok x) h = (λ e. absurd (omega arith), λ e. absurd (omega arith), λ e. absurd (omega arith))
-may-have c (Err Memory) h = (λ e. absurd (omega arith), λ e. absurd (omega arith), λ e. absurd (omega arith))
-may-have c (Err Unwritten) h = (λ e. absurd (omega arith), λ e. absurd (omega arith), λ e. absurd (omega arith))
-may-have c (Err (Undelivered names)) h = (λ e. absurd (omega arith), λ e. absurd (omega arith), λ e. absurd (omega arith))
-may-have c (Err Overflow) h = (λ e. absurd (omega arith), λ e. absurd (omega arith), λ e. absurd (omega arith))
-may-have c (Err (WrongLine line name)) h = (λ e. absurd (omega arith), λ e. absurd (omega arith), λ e. absurd (omega arith))
-may-have c (Err WireFailed) h = (λ e. absurd (omega arith), λ e. absurd (omega arith), λ e. absurd (omega arith))
-may-have c (Err NoCommand) h = absurd h
-may-have c (Err (Unread file)) h = absurd h
-may-have c (Err (Refused file f)) h = absurd h
+may-have c r h = has-status r h

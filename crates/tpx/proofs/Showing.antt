@@ -1,6 +1,5 @@
 -- How a file that was read, and of which the numbers were shown or are over, ends the command.
-use Rattle.std.proofs.Common.{◌≡◌, ◌⊎◌, inl, inr, ◌∙◌, ℕ, Bool, true, false, cond, List, [], ◌∷◌, Option, None, Some, Result, Ok, Err, IfErr, refl, sym, ap, subst, lit<}
-use Rattle.std.specs.Borrow.{Bor}
+use Rattle.std.proofs.Common.{◌≡◌, ◌⊎◌, inl, ◌∙◌, ℕ, Bool, true, false, cond, List, [], ◌∷◌, Option, None, Some, Result, Ok, Err, IfErr, refl, sym, ap, subst, lit<}
 use Rattle.outside.specs.Faults.{Rose}
 use Rattle.outside.specs.Reads.{HasText, Source}
 use Rattle.outside.specs.Writes.{Writes}
@@ -8,10 +7,9 @@ use Rattle.mm_text.specs.declared.fault.MmFault.{MmFault}
 use Rattle.mm_text.specs.Outcomes.{Outcome}
 use Rattle.mm_text.specs.Reading.{File, HasFault, IsFile, reading}
 use Rattle.tpx.specs.declared.fault.Fault.{Fault}
-use Rattle.tpx.specs.declared.fault.Fault.TheVariants.{Memory, NoCommand, Unread, Unwritten, Refused, Undelivered, Overflow, WrongLine, WireFailed}
-use Rattle.run_input.specs.Reading.{name_text}
+use Rattle.tpx.specs.declared.fault.Fault.TheVariants.{Memory, NoCommand, Unread, Unwritten, Refused, Overflow, WireFailed}
 use Rattle.run_input.specs.declared.fault.TextFault.TheVariants.{Matrix}
-use Rattle.tpx.specs.Endings.{Ending, no_command, no_file, refused, overflow, writes, is_over, text_of, file_ending, show_ending, shown_profile}
+use Rattle.tpx.specs.Endings.{no_command, refused, overflow, writes, is_over, text_of, file_ending, show_ending, shown_profile}
 use Rattle.run_input.specs.Sources.{SomeSource}
 use Rattle.message_play.specs.Plays.{WireState}
 use Rattle.tpx.specs.Calls.{SomeCall}

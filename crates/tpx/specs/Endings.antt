@@ -1,10 +1,11 @@
 -- How a command ends, by its words, a source of texts and the letters that were given, where memory suffices and nothing
 -- of the outside fails.
 use Rattle.std.specs.Global.{Global}
-use Rattle.std.specs.Prelude.{◌≡◌, ◌⊎◌, ℕ, Bool, List, [], ◌∷◌, ◌++◌, Option, None, Some, Result, Ok, Err, String, map, string_bytes, if◌then◌else◌}
+use Rattle.std.specs.Prelude.{◌≡◌, ◌⊎◌, ℕ, Bool, List, [], ◌∷◌, ◌++◌, Option, None, Some, Result, Ok, Err, String, length, map, string_bytes, if◌then◌else◌}
 use Rattle.outside.specs.declared.name.Name.{Name}
 use Rattle.outside.specs.Reads.{Source}
 use Rattle.peers.specs.Protocols.{Letter}
+use Rattle.schedule.specs.declared.chooser.Chooser.TheVariants as chooser
 use Rattle.schedule.specs.Orders as orders
 use Rattle.scalar_laws.specs.declared.weighed.Weighed.{Weighed}
 use Rattle.scalar_laws.specs.Weighed.{weighed_semiring, weighed_conversions}
@@ -17,16 +18,20 @@ use Rattle.mm_text.specs.Outcomes.{Outcome}
 use Rattle.mm_text.specs.Reading.{File, reading}
 use Rattle.model_defs.specs.FileMatrix.{file_matrix}
 use Rattle.model_defs.specs.Pieces.{Value}
-use Rattle.model_defs.specs.Sheets.{is_any_over, printed_text}
+use Rattle.model_defs.specs.Sheets.{is_any_over, printed_text, sheets_of}
 use Rattle.model_defs.specs.ShowText.{shown_cell, show_text, is_file_over}
-use Rattle.model_defs.specs.Traffic.{traffic_text}
+use Rattle.model_defs.specs.Traffic.{letter_lines, traffic_text}
 use Rattle.model_defs.specs.Turns.{Each}
 use Rattle.run_input.specs.declared.fault.TextFault.{TextFault}
 use Rattle.run_input.specs.declared.fault.TextFault.TheVariants.{Matrix}
+use Rattle.generated_job.specs.Generated.{generated_files, generated_job}
+use Rattle.run_output.specs.declared.summary.Summary.{Summary}
+use Rattle.run_output.specs.Summaries.{summary_of, summary_text}
+use Rattle.run_input.specs.Orders.{by_rule}
 use Rattle.run_input.specs.Walk.{Input, Stop, input_of, reads_for}
 use Rattle.run_input.specs.Walk as walk
 use Rattle.tpx.specs.Runs.{end_of, gathered, on_global_data}
-use Rattle.tpx.specs.Words.{Command, show, run, command}
+use Rattle.tpx.specs.Words.{Command, show, run, gen, command}
 
 -- the most entries of a file that is shown, and the most rows
 abbrev pub most_entries : ℕ
@@ -103,11 +108,30 @@ run_ending traffic values (Ok input) = ordered_ending (end_of input) traffic inp
 run_ending traffic values (Err (walk.no_file name)) = no_file name
 run_ending traffic values (Err (walk.refused name fault)) = refused name fault
 
+-- what the ranks of `gen` are given: the job of this size and its files, in fifo order
+abbrev pub generated_input : ℕ → Input
+generated_input n = record { job = generated_job n; files = generated_files n; order = by_rule chooser.Fifo }
+
+-- the summary of its printed values, where they are these, and of its letters; none where a sum is over
+abbrev pub generated_summary : ℕ → Each (Value Weighed) → Option Summary
+generated_summary n values =
+    summary_of n (sheets_of weighed_conversions (generated_job n) values) (length (letter_lines (generated_job n) (generated_files n)))
+
+abbrev pub summary_ending : Option Summary → Ending
+summary_ending None = overflow
+summary_ending (Some summary) = writes (summary_text summary)
+
+-- no cell may be over, and neither sum
+abbrev pub generated_ending : ℕ → Each (Value Weighed) → Ending
+generated_ending n values =
+    if is_any_over weighed_conversions (generated_job n) values then overflow else summary_ending (generated_summary n values)
+
 -- how a command ends over a source
 abbrev pub ending_with : (Input → Each (Value Weighed)) → Option Command → Source → Ending
 ending_with values None source = no_command
 ending_with values (Some (show ranks name)) source = show_ending name (source name)
 ending_with values (Some (run c)) source = run_ending c.traffic values (input_of source c.job c.order)
+ending_with values (Some (gen n)) source = generated_ending n (values (generated_input n))
 
 -- where the ranks were given these letters
 abbrev pub ending : Option Command → Source → List Letter → Ending
@@ -122,14 +146,16 @@ abbrev pub reads : Option Command → Source → List (List ℕ)
 reads None source = []
 reads (Some (show ranks name)) source = name ∷ []
 reads (Some (run c)) source = reads_for source c.job c.order
+reads (Some (gen n)) source = []
 
--- what a run is given, where the command is one and nothing is refused
+-- what the ranks are given, where they are played and nothing is refused
 abbrev pub input_if : Result Input Stop → Option Input
 input_if (Ok input) = Some input
 input_if (Err stop) = None
 
 abbrev pub run_input : Option Command → Source → Option Input
 run_input (Some (run c)) source = input_if (input_of source c.job c.order)
+run_input (Some (gen n)) source = Some (generated_input n)
 run_input (Some (show ranks name)) source = None
 run_input None source = None
 

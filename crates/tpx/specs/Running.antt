@@ -19,7 +19,7 @@ use Rattle.run_input.specs.Walk.{Input}
 use Rattle.run_output.specs.Listings.{listing}
 use Rattle.run_output.specs.Pages.{IsReady, page_text}
 use Rattle.tpx.specs.declared.fault.Fault.{Fault}
-use Rattle.tpx.specs.declared.fault.Fault.TheVariants.{Memory, NoCommand, Unread, Unwritten, Refused, Undelivered, Overflow, WrongLine, WireFailed}
+use Rattle.tpx.specs.declared.fault.Fault.TheVariants.{Memory, Undelivered, Overflow, WrongLine, WireFailed}
 use Rattle.tpx.specs.declared.output.Output.{Output}
 use Rattle.tpx.specs.Calls.{is_settled}
 use Rattle.tpx.specs.Faults.{result_status}

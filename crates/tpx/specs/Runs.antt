@@ -1,5 +1,5 @@
 -- The run of a job over a wire: the letters given, and the values.
-use Rattle.std.specs.Prelude.{◌≡◌, true, ℕ, Bool, if◌then◌else◌, List, [], ◌++◌, Option, None, Some}
+use Rattle.std.specs.Prelude.{◌≡◌, true, Bool, if◌then◌else◌, List, [], ◌++◌, Option, None, Some}
 use Rattle.outside.specs.declared.name.Name.{Name}
 use Rattle.outside.specs.Letters.{no_letters}
 use Rattle.outside.specs.MailRoom.{names_of}

@@ -1,5 +1,5 @@
 -- What the steps of a command answer.
-use Rattle.std.specs.Prelude.{◌≡◌, ℕ, Bool, true, false, IsTrue, List, Option, None, Some, Result, Ok, Err}
+use Rattle.std.specs.Prelude.{◌≡◌, ℕ, Bool, true, List, Option, Some, Result, Ok, Err}
 use Rattle.std.specs.Borrow.{Bor}
 use Rattle.std.specs.List.{IsAmong}
 use Rattle.outside.specs.Faults.{Rose}
@@ -16,7 +16,7 @@ use Rattle.tpx.specs.declared.fault.Fault.{Fault}
 use Rattle.tpx.specs.declared.fault.Fault.TheVariants.{Memory, NoCommand, Unread, Unwritten, Refused, Undelivered, Overflow, WrongLine, WireFailed}
 use Rattle.tpx.specs.Endings.{Ending, EndsWith, no_command, overflow, refused, shown_profile, undelivered, wrong_line}
 use Rattle.tpx.specs.Streams.{TakesText, TakesPart}
-use Rattle.tpx.specs.Words.{Command, run}
+use Rattle.tpx.specs.Words.{Command, gen, run}
 
 -- the answer is a read that failed
 abbrev pub IsUnread : {T : Type 0} → Result T Fault → Type 0
@@ -102,9 +102,10 @@ abbrev pub RoseAt : {T : Type 0} → (List ℕ → ℕ) → (List ℕ → ℕ) �
 RoseAt before after (Err (Unread file)) = Rose (before (name_text file)) (after (name_text file))
 RoseAt before after _ = Unit {0}
 
--- the command is `run`, and with this status its run may have begun
+-- ranks are played in the command, and with this status they may have begun
 abbrev pub MayHaveRun : Option Command → ℕ → Type 0
 MayHaveRun (Some (run c)) status = (status ≡ 2 → ⊥) × (status ≡ 3 → ⊥) × (status ≡ 5 → ⊥)
+MayHaveRun (Some (gen n)) status = (status ≡ 2 → ⊥) × (status ≡ 3 → ⊥) × (status ≡ 5 → ⊥)
 MayHaveRun _ status = ⊥
 
 -- an answer where the play of the ranks may have begun

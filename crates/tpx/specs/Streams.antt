@@ -5,7 +5,7 @@ use Rattle.std.specs.List.{IsAmong}
 use Rattle.outside.specs.Bytes.{with_bytes}
 use Rattle.outside.specs.Faults.{Rose}
 use Rattle.outside.specs.Writes.{TakesPrefix}
-use Rattle.tpx.specs.Endings.{Ending, no_command, no_file, refused, undelivered, overflow, wrong_line, writes}
+use Rattle.tpx.specs.Endings.{Ending, refused, undelivered, wrong_line, writes}
 use Rattle.tpx.specs.Messages.{refused_message, undelivered_message, unread_message, wrong_line_message}
 
 -- the sink took the whole text of the ending

@@ -12,10 +12,15 @@
 #![tactic(auto)]
 
 #[cfg(test)]
+mod assemble_tests;
+#[cfg(test)]
 mod conflict_tests;
 #[cfg(test)]
 mod export_tests;
 mod fault;
+#[cfg(test)]
+mod gen_tests;
+mod generated;
 #[cfg(test)]
 mod import_tests;
 #[cfg(test)]
@@ -25,10 +30,18 @@ mod messages;
 mod move_tests;
 mod output;
 #[cfg(test)]
+mod plain_matrices;
+#[cfg(test)]
+mod product_tests;
+#[cfg(test)]
 mod random_jobs;
+#[cfg(test)]
+mod random_matrix_tests;
 #[cfg(test)]
 mod random_tests;
 mod refusals;
+#[cfg(test)]
+mod refused_tests;
 #[cfg(test)]
 mod residue_tests;
 mod run;
@@ -38,6 +51,8 @@ mod show;
 #[cfg(test)]
 mod show_tests;
 mod shown;
+#[cfg(test)]
+mod sum_tests;
 mod system;
 #[cfg(test)]
 mod test_runs;

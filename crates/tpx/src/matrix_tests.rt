@@ -6,20 +6,20 @@ use crate::test_runs::{
 };
 use std::test::Fail;
 
-const ONE_RANK: &str = "ranks = 1\n";
+pub const ONE_RANK: &str = "ranks = 1\n";
 
-const TWO_RANKS: &str = "ranks = 2\n";
+pub const TWO_RANKS: &str = "ranks = 2\n";
 
-const UNIFORM: &str = "[[map]]\nname = \"u\"\nkind = \"uniform\"\nsize = 3\n";
+pub const UNIFORM: &str = "[[map]]\nname = \"u\"\nkind = \"uniform\"\nsize = 3\n";
 
-const CYCLIC: &str = "[[map]]\nname = \"c\"\nkind = \"cyclic\"\nsize = 3\n";
+pub const CYCLIC: &str = "[[map]]\nname = \"c\"\nkind = \"cyclic\"\nsize = 3\n";
 
 /// A cyclic map of the name of the uniform one.
 const CYCLIC_AS_U: &str = "[[map]]\nname = \"u\"\nkind = \"cyclic\"\nsize = 3\n";
 
-const VECTOR_X: &str = "[[vector]]\nname = \"x\"\nmap = \"u\"\nfile = \"x.mtx\"\n";
+pub const VECTOR_X: &str = "[[vector]]\nname = \"x\"\nmap = \"u\"\nfile = \"x.mtx\"\n";
 
-const ASSEMBLED: &str =
+pub const ASSEMBLED: &str =
     "[[matrix]]\nname = \"A\"\nkind = \"assembled\"\nrows = \"u\"\ndomain = \"u\"\nfile = \"a.mtx\"\n";
 
 const SPLIT: &str =
@@ -30,9 +30,9 @@ const Y_OF_X: &str = "[[do]]\nop = \"apply\"\nname = \"y\"\nmatrix = \"A\"\nx = 
 /// What follows it, where the product is that with the transpose.
 const TRANSPOSED: &str = "transposed = true\n";
 
-const PRINT_Y: &str = "[[do]]\nop = \"print\"\nvalue = \"y\"\n";
+pub const PRINT_Y: &str = "[[do]]\nop = \"print\"\nvalue = \"y\"\n";
 
-const PRINT_A: &str = "[[do]]\nop = \"print\"\nvalue = \"A\"\n";
+pub const PRINT_A: &str = "[[do]]\nop = \"print\"\nvalue = \"A\"\n";
 
 /// The job that applies the matrix to x, and prints what comes of it.
 const APPLIED: &[&str] = &[TWO_RANKS, UNIFORM, VECTOR_X, ASSEMBLED, Y_OF_X, PRINT_Y];
@@ -41,7 +41,7 @@ const APPLIED: &[&str] = &[TWO_RANKS, UNIFORM, VECTOR_X, ASSEMBLED, Y_OF_X, PRIN
 const Y: &str = "3 1\n502\n30\n-1\n";
 
 /// The letters by which the matrix is assembled.
-const LETTERS_OF_A: &str =
+pub const LETTERS_OF_A: &str =
     "phase 0 OFFER A\nletter 0 0 1 1\nletter 0 1 0 2\nphase 1 ROWS A\nletter 1 0 1 1\nletter 1 1 0 2\nphase 2 WANT A\nletter 2 0 1 1\nletter 2 1 0 1\n";
 
 /// Those by which it is applied.
@@ -322,7 +322,7 @@ fn a_wire_may_fail_at_each_call_of_a_product(rt: HostRuntime) -> Result<(), Fail
 }
 
 /// A map of one index.
-const SINGLE: &str = "[[map]]\nname = \"u\"\nkind = \"uniform\"\nsize = 1\n";
+pub const SINGLE: &str = "[[map]]\nname = \"u\"\nkind = \"uniform\"\nsize = 1\n";
 
 /// The greatest number.
 const GREATEST: &str =
@@ -421,7 +421,7 @@ fn numbers_of_matrices_may_be_over(rt: HostRuntime) -> Result<(), Fail> {
     each(&rt, rt.alloc(), &OVERFLOWS)
 }
 
-/// A job of three ranks with two matrices and every statement.
+/// A job of three ranks with two matrices and every statement that makes no matrix of others.
 const LONG: &[&str] = &[
     "ranks = 3\n[[map]]\nname = \"u\"\nkind = \"uniform\"\nsize = 5\n[[map]]\nname = \"c\"\nkind = \"cyclic\"\nsize = 5\n[[map]]\nname = \"l\"\nkind = \"lists\"\nsize = 5\nlists = [[0, 2, 4], [1, 2], [4, 3, 0]]\n",
     "[[vector]]\nname = \"x\"\nmap = \"u\"\nfile = \"x.mtx\"\n[[parts]]\nname = \"p\"\nmap = \"l\"\nfill = 1\n",
@@ -449,7 +449,7 @@ const LONG_TEXT: &[&str] = &[
     "5 1\n727\n-231\n3771\n-56\n5346\n",
 ];
 
-const EVERY_STATEMENT: Case = Case {
+const LONG_RUN: Case = Case {
     name: "a long job prints one text in every order",
     job: LONG,
     x: "%%MatrixMarket matrix array integer general\n5 1\n1\n-2\n3\n0\n4\n",
@@ -459,30 +459,30 @@ const EVERY_STATEMENT: Case = Case {
 };
 
 const IN_EVERY_ORDER: [Case; 7] = [
-    Case { ..EVERY_STATEMENT },
+    Case { ..LONG_RUN },
     Case {
         words: &["run", "j.toml", "--order", "lifo"],
-        ..EVERY_STATEMENT
+        ..LONG_RUN
     },
     Case {
         words: &["run", "j.toml", "--order=seed", "--seed=0"],
-        ..EVERY_STATEMENT
+        ..LONG_RUN
     },
     Case {
         words: &["run", "j.toml", "--order=seed", "--seed=1"],
-        ..EVERY_STATEMENT
+        ..LONG_RUN
     },
     Case {
         words: &["run", "j.toml", "--order=seed", "--seed=2"],
-        ..EVERY_STATEMENT
+        ..LONG_RUN
     },
     Case {
         words: &["run", "j.toml", "--order=seed", "--seed=3"],
-        ..EVERY_STATEMENT
+        ..LONG_RUN
     },
     Case {
         words: &["run", "j.toml", "--order=seed", "--seed=4"],
-        ..EVERY_STATEMENT
+        ..LONG_RUN
     },
 ];
 

@@ -1,7 +1,7 @@
-//! Small random jobs with a matrix, for the tests: what they are made of, and their texts.
+//! Small random jobs with a matrix, for the tests: what they are made of, their texts, and their runs.
 
-use crate::test_runs::ARRAY;
-use outside::MemFiles;
+use crate::test_runs::{ARRAY, Ran, run_on};
+use outside::{MailRoom, MemFiles};
 use std::alloc::{AllocError, Global};
 
 /// The numbers of matrices and vectors.
@@ -23,6 +23,7 @@ impl Draw {
         (self.state >> 33).wrapping_mul(count) >> 31
     }
 
+    /// A number of a matrix or of a vector.
     fn number(&mut self) -> i64 {
         NUMBERS.get(self.below(8)).copied().unwrap_or(0)
     }
@@ -74,7 +75,8 @@ pub struct Given {
     pub t: Dense,
 }
 
-fn random_lines(
+/// At most 19 lines of a matrix of so many rows and columns.
+pub fn random_lines(
     alloc: Global,
     draw: &mut Draw,
     rows: usize,
@@ -134,27 +136,37 @@ pub fn array_text(alloc: Global, vector: &Dense) -> Result<String, AllocError> {
 }
 
 /// The line of an entry, counted from 1.
-pub fn line_text(alloc: Global, entry: &Entry) -> Result<String, AllocError> {
+fn line_text(alloc: Global, entry: &Entry) -> Result<String, AllocError> {
     let row = entry.row.wrapping_add(1);
     let col = entry.col.wrapping_add(1);
     let value = entry.value;
     format!(in alloc; "{row} {col} {value}\n")
 }
 
-/// The file of the matrix.
-fn matrix_text(alloc: Global, given: &Given) -> Result<String, AllocError> {
-    let mut text = String::from_str(alloc, "%%MatrixMarket matrix coordinate integer ")?;
-    text.push_str(if given.is_symmetric {
-        "symmetric"
-    } else {
-        "general"
-    })?;
-    let (rows, cols, count) = (given.t.rows, given.x.rows, given.lines.len());
-    text.push_str(&format!(in alloc; "\n{rows} {cols} {count}\n")?)?;
-    for line in &given.lines {
+/// The text of a coordinate file behind its first line.
+pub fn lines_text(
+    alloc: Global,
+    rows: usize,
+    cols: usize,
+    lines: &[Entry],
+) -> Result<String, AllocError> {
+    let count = lines.len();
+    let mut text = format!(in alloc; "{rows} {cols} {count}\n")?;
+    for line in lines {
         text.push_str(&line_text(alloc, line)?)?;
     }
     Ok(text)
+}
+
+/// The file of the matrix.
+fn matrix_text(alloc: Global, given: &Given) -> Result<String, AllocError> {
+    let symmetry = if given.is_symmetric {
+        "symmetric"
+    } else {
+        "general"
+    };
+    let lines = lines_text(alloc, given.t.rows, given.x.rows, &given.lines)?;
+    format!(in alloc; "%%MatrixMarket matrix coordinate integer {symmetry}\n{lines}")
 }
 
 /// The files of a job of this text.
@@ -223,34 +235,119 @@ fn counts_text(alloc: Global, owners: &[usize], ranks: usize) -> Result<String, 
     Ok(text)
 }
 
-/// A map of any kind, behind its name.
-fn map_text(
+/// A map: its text behind its name, and the owner of each index.
+#[derive(Drop)]
+pub struct Owned {
+    pub text: String,
+    pub owners: Vec<usize>,
+}
+
+/// The indices are dealt to the ranks one by one.
+fn dealt_owners(alloc: Global, ranks: usize, size: usize) -> Result<Vec<usize>, AllocError> {
+    let mut owners = Vec::new(alloc);
+    for gid in 0..size {
+        owners.push(gid.checked_rem(ranks).unwrap_or(0))?;
+    }
+    Ok(owners)
+}
+
+/// The same number of indices for each rank, in runs.
+fn in_runs(alloc: Global, owners: &[usize], ranks: usize) -> Result<Vec<usize>, AllocError> {
+    let mut runs = Vec::new(alloc);
+    for rank in 0..ranks {
+        for _ in 0..count_of(owners, rank) {
+            runs.push(rank)?;
+        }
+    }
+    Ok(runs)
+}
+
+/// A map of any kind.
+pub fn random_map(
     alloc: Global,
     draw: &mut Draw,
     ranks: usize,
     size: usize,
-) -> Result<String, AllocError> {
+) -> Result<Owned, AllocError> {
+    let dealt = dealt_owners(alloc, ranks, size)?;
     let owners = random_owners(alloc, draw, ranks, size)?;
-    let lists = lists_text(alloc, &owners, ranks)?;
-    let counts = counts_text(alloc, &owners, ranks)?;
     match draw.below(4) {
-        0 => format!(in alloc; "kind = \"uniform\"\nsize = {size}\n"),
-        1 => format!(in alloc; "kind = \"cyclic\"\nsize = {size}\n"),
-        2 => format!(in alloc; "kind = \"blocks\"\ncounts = [{counts}]\n"),
-        _ => format!(in alloc; "kind = \"lists\"\nsize = {size}\nlists = [{lists}]\n"),
+        0 => Ok(Owned {
+            text: format!(in alloc; "kind = \"uniform\"\nsize = {size}\n")?,
+            owners: in_runs(alloc, &dealt, ranks)?,
+        }),
+        1 => Ok(Owned {
+            text: format!(in alloc; "kind = \"cyclic\"\nsize = {size}\n")?,
+            owners: dealt,
+        }),
+        2 => {
+            let counts = counts_text(alloc, &owners, ranks)?;
+            Ok(Owned {
+                text: format!(in alloc; "kind = \"blocks\"\ncounts = [{counts}]\n")?,
+                owners: in_runs(alloc, &owners, ranks)?,
+            })
+        }
+        _ => {
+            let lists = lists_text(alloc, &owners, ranks)?;
+            Ok(Owned {
+                text: format!(in alloc; "kind = \"lists\"\nsize = {size}\nlists = [{lists}]\n")?,
+                owners,
+            })
+        }
     }
 }
 
-/// The matrix, once of each kind, one of which is printed.
-const MATRICES: &str =
-    "[[matrix]]\nname = \"A\"\nkind = \"assembled\"\nrows = \"r\"\ndomain = \"d\"\nfile = \"a.mtx\"\n[[matrix]]\nname = \"S\"\nkind = \"split\"\nrows = \"r\"\ndomain = \"d\"\nfile = \"a.mtx\"\n[[do]]\nop = \"print\"\nvalue = \"A\"\n";
+/// The table of a map of this name.
+pub fn map_text(alloc: Global, name: &str, map: &Owned) -> Result<String, AllocError> {
+    let text = &map.text;
+    format!(in alloc; "[[map]]\nname = \"{name}\"\n{text}")
+}
 
-/// The job up to its products: the matrix as A and S, x on its domain, and t on its rows.
-pub fn head_text(alloc: Global, draw: &mut Draw, given: &Given) -> Result<String, AllocError> {
+/// The matrix, once of each kind.
+const MATRICES: &str =
+    "[[matrix]]\nname = \"A\"\nkind = \"assembled\"\nrows = \"r\"\ndomain = \"d\"\nfile = \"a.mtx\"\n[[matrix]]\nname = \"S\"\nkind = \"split\"\nrows = \"r\"\ndomain = \"d\"\nfile = \"a.mtx\"\n";
+
+/// The job up to its statements, with these maps, of which d and r are two: the matrix as A and S, x on its domain d, and t on its
+/// rows r.
+pub fn head_text(alloc: Global, given: &Given, maps: &str) -> Result<String, AllocError> {
     let (ranks, columns) = (given.ranks, given.x.columns);
-    let domain = map_text(alloc, draw, ranks, given.x.rows)?;
-    let rows = map_text(alloc, draw, ranks, given.t.rows)?;
     format!(in alloc;
-        "ranks = {ranks}\n[[map]]\nname = \"d\"\n{domain}[[map]]\nname = \"r\"\n{rows}[[vector]]\nname = \"x\"\nmap = \"d\"\ncolumns = {columns}\nfile = \"x.mtx\"\n[[vector]]\nname = \"t\"\nmap = \"r\"\ncolumns = {columns}\nfile = \"t.mtx\"\n{MATRICES}"
+        "ranks = {ranks}\n{maps}[[vector]]\nname = \"x\"\nmap = \"d\"\ncolumns = {columns}\nfile = \"x.mtx\"\n[[vector]]\nname = \"t\"\nmap = \"r\"\ncolumns = {columns}\nfile = \"t.mtx\"\n{MATRICES}"
     )
+}
+
+/// The statement that prints a value.
+pub fn print_text(alloc: Global, name: &str) -> Result<String, AllocError> {
+    format!(in alloc; "[[do]]\nop = \"print\"\nvalue = \"{name}\"\n")
+}
+
+/// Runs the job with its letters in some order.
+pub fn run_in_some_order(
+    alloc: Global,
+    draw: &mut Draw,
+    files: &mut MemFiles,
+) -> Result<Ran, AllocError> {
+    let number = draw.below(1000);
+    let mut wire = MailRoom::new(alloc);
+    match draw.below(3) {
+        0 => run_on(
+            alloc,
+            &["run", "j.toml", "--order=fifo"],
+            files,
+            &mut wire,
+            10_000,
+        ),
+        1 => run_on(
+            alloc,
+            &["run", "j.toml", "--order=lifo"],
+            files,
+            &mut wire,
+            10_000,
+        ),
+        _ => {
+            let seed = format!(in alloc; "--seed={number}")?;
+            let words = ["run", "j.toml", "--order=seed", seed.as_str()];
+            run_on(alloc, &words, files, &mut wire, 10_000)
+        }
+    }
 }

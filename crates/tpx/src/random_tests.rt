@@ -1,10 +1,11 @@
 //! Every form of `apply`, on small random jobs, beside a plain evaluation of its sums.
 
+use crate::plain_matrices::{all_turned, entries_of, sheet_text};
 use crate::random_jobs::{
-    Dense, Draw, Entry, Given, array_text, files_of, head_text, line_text, random_given,
+    Dense, Draw, Entry, Given, array_text, files_of, head_text, map_text, print_text, random_given,
+    random_map, run_in_some_order,
 };
-use crate::test_runs::{COORDINATE, Ran, expect, run_on};
-use outside::{MailRoom, MemFiles};
+use crate::test_runs::expect;
 use std::alloc::{AllocError, Global};
 use std::process::Abort;
 use std::test::Fail;
@@ -14,27 +15,6 @@ const JOBS: usize = 96;
 
 /// What `alpha` and `beta` are.
 const FACTORS: [i64; 4] = [0, 1, -1, 3];
-
-/// The entries at each place for which a line stands.
-fn entries_of(alloc: Global, given: &Given) -> Result<Vec<Entry>, AllocError> {
-    let mut entries = Vec::new(alloc);
-    for line in &given.lines {
-        entries.push(*line)?;
-        if given.is_symmetric && line.row != line.col {
-            entries.push(line.turned())?;
-        }
-    }
-    Ok(entries)
-}
-
-/// Those of the transpose.
-fn all_turned(alloc: Global, entries: &[Entry]) -> Result<Vec<Entry>, AllocError> {
-    let mut all = Vec::new(alloc);
-    for entry in entries {
-        all.push(entry.turned())?;
-    }
-    Ok(all)
-}
 
 /// The product of a matrix with a vector, at one row and one column of the vector.
 fn product_at(entries: &[Entry], x: &Dense, row: usize, column: usize) -> i64 {
@@ -69,47 +49,6 @@ fn applied(
         columns,
         numbers,
     })
-}
-
-/// The number at a place, if an entry names it.
-fn number_at(entries: &[Entry], row: usize, col: usize) -> Option<i64> {
-    let mut number = None;
-    for entry in entries {
-        if entry.row == row && entry.col == col {
-            number = Some(number.unwrap_or(0i64).wrapping_add(entry.value));
-        }
-    }
-    number
-}
-
-/// Each place that an entry names, by row, then column, with its number.
-fn places_of(
-    alloc: Global,
-    entries: &[Entry],
-    rows: usize,
-    cols: usize,
-) -> Result<Vec<Entry>, AllocError> {
-    let mut places = Vec::new(alloc);
-    for row in 0..rows {
-        for col in 0..cols {
-            if let Some(value) = number_at(entries, row, col) {
-                places.push(Entry { row, col, value })?;
-            }
-        }
-    }
-    Ok(places)
-}
-
-/// What is printed of the matrix.
-fn printed_matrix(alloc: Global, given: &Given) -> Result<String, AllocError> {
-    let (rows, cols) = (given.t.rows, given.x.rows);
-    let places = places_of(alloc, &entries_of(alloc, given)?, rows, cols)?;
-    let count = places.len();
-    let mut text = format!(in alloc; "{COORDINATE}{rows} {cols} {count}\n")?;
-    for place in &places {
-        text.push_str(&line_text(alloc, place)?)?;
-    }
-    Ok(text)
 }
 
 /// A form of a product: of a split matrix or of an assembled one, of its transpose or of itself, with or without y.
@@ -159,7 +98,12 @@ fn job_text(
     alpha: i64,
     beta: i64,
 ) -> Result<String, AllocError> {
-    let mut text = head_text(alloc, draw, given)?;
+    let domain = random_map(alloc, draw, given.ranks, given.x.rows)?;
+    let rows = random_map(alloc, draw, given.ranks, given.t.rows)?;
+    let mut maps = map_text(alloc, "d", &domain)?;
+    maps.push_str(&map_text(alloc, "r", &rows)?)?;
+    let mut text = head_text(alloc, given, &maps)?;
+    text.push_str(&print_text(alloc, "A")?)?;
     for number in 0..FORMS {
         text.push_str(&form_text(alloc, number, alpha, beta)?)?;
     }
@@ -185,43 +129,13 @@ fn vector_of(
 
 /// What the job prints.
 fn printed(alloc: Global, given: &Given, alpha: i64, beta: i64) -> Result<String, AllocError> {
-    let mut text = printed_matrix(alloc, given)?;
+    let entries = entries_of(alloc, given)?;
+    let mut text = sheet_text(alloc, &entries, given.t.rows, given.x.rows)?;
     for number in 0..FORMS {
         let vector = vector_of(alloc, given, form_of(number), alpha, beta)?;
         text.push_str(&array_text(alloc, &vector)?)?;
     }
     Ok(text)
-}
-
-/// Runs the job with its letters in some order.
-fn run_in_some_order(
-    alloc: Global,
-    draw: &mut Draw,
-    files: &mut MemFiles,
-) -> Result<Ran, AllocError> {
-    let number = draw.below(1000);
-    let mut wire = MailRoom::new(alloc);
-    match draw.below(3) {
-        0 => run_on(
-            alloc,
-            &["run", "j.toml", "--order=fifo"],
-            files,
-            &mut wire,
-            10_000,
-        ),
-        1 => run_on(
-            alloc,
-            &["run", "j.toml", "--order=lifo"],
-            files,
-            &mut wire,
-            10_000,
-        ),
-        _ => {
-            let seed = format!(in alloc; "--seed={number}")?;
-            let words = ["run", "j.toml", "--order=seed", seed.as_str()];
-            run_on(alloc, &words, files, &mut wire, 10_000)
-        }
-    }
 }
 
 /// A random job prints what the plain evaluation says.

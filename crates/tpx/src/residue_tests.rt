@@ -3,7 +3,6 @@ ghost use Rattle.std.specs.Prelude.{map};
 ghost use Rattle.mm_text.specs.Reading.{file_of};
 ghost use Rattle.model_defs.specs.Fitting.{IsFitting};
 ghost use Rattle.model_defs.specs.Valid.{IsValid};
-ghost use Rattle.value_phases.specs.BuiltJobs.{IsBuiltJob};
 
 use crate::export_tests::{AND_BACK, PRINT_Y, THERE};
 use crate::move_tests::TO_CYCLIC;
@@ -20,7 +19,6 @@ use std::test::Fail;
 /// The values that a job prints, all numbers being residues below 1000.
 fn printed_residues(alloc: Global, given: &Given) -> Result<Vec<i128>, AllocError>
     requires valid { IsValid given.now.job.value }
-    requires built { IsBuiltJob given.now.job.value }
     requires fitting { IsFitting given.now.job.value (map file_of given.now.files.items) }
 {
     let mut values = Vec::new(alloc);

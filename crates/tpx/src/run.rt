@@ -10,7 +10,6 @@ ghost use Rattle.rank_sim.specs.Writable.{IsWritable};
 ghost use Rattle.run_input.specs.Answering.{input_view};
 ghost use Rattle.run_input.specs.Sources.{SomeSource};
 ghost use Rattle.run_words.specs.Seen.{words_view};
-ghost use Rattle.value_phases.specs.BuiltJobs.{IsBuiltJob};
 ghost use Rattle.tpx.specs.Calls.{SomeCall, is_settled};
 ghost use Rattle.tpx.specs.Endings.{reads};
 ghost use Rattle.tpx.specs.Faults.{result_status};
@@ -41,7 +40,8 @@ fn fault_of<'a>(fault: InputFault<'a>) -> Fault<'a>
 
 /// How the command goes on where the ranks were played to this end.
 fn outcome_of<'a>(ended: Result<End, RunFault>) -> Result<Outcome, Fault<'a>>
-    ensures { result ≡ outcome_of ended }
+    ensures outcome { result ≡ outcome_of ended }
+    ensures began { HasPlayed result }
 {
     match ended {
         Ok(End::Done(outcome)) => Ok(outcome),
@@ -54,13 +54,13 @@ fn outcome_of<'a>(ended: Result<End, RunFault>) -> Result<Outcome, Fault<'a>>
 }
 
 /// Plays the ranks of a job over a wire on which nothing is pending.
-fn play<'a, W: Wire>(alloc: Global, given: &Given, wire: &mut W) -> Result<Outcome, Fault<'a>>
+pub fn play<'a, W: Wire>(alloc: Global, given: &Given, wire: &mut W) -> Result<Outcome, Fault<'a>>
     requires valid { IsValid given.now.job.value }
-    requires built { IsBuiltJob given.now.job.value }
     requires fitting { IsFitting given.now.job.value (map file_of given.now.files.items) }
     requires nothing_pending { (name : Name) → W.pending wire.old name ≡ None }
     ensures played { IsPlayedRun (input_view given.now) (wire_state W.pending W.posted W.taken W.given W.is_honest wire.old) (wire_state W.pending W.posted W.taken W.given W.is_honest wire.new) result }
     ensures writable { IfOk result (λ outcome. All IsWritable outcome.sheets.items) }
+    ensures began { HasPlayed result }
     ensures unread { IsUnread result → ⊥ }
     ensures wire_fault { IsWireFailed result → Rose (W.faults wire.old) (W.faults wire.new) }
     ensures no_wire_fault { IsWireFailed result ⊎ (W.faults wire.new ≡ W.faults wire.old) }

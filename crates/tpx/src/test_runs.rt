@@ -193,6 +193,38 @@ pub fn each(rt: &impl Abort, alloc: Global, cases: &[Case]) -> Result<(), Fail> 
     Ok(())
 }
 
+/// The words of four orders in which every letter is delivered.
+const ORDERS: [&[&str]; 4] = [
+    &["run", "j.toml", "--order", "fifo"],
+    &["run", "j.toml", "--order", "lifo"],
+    &["run", "j.toml", "--order=seed", "--seed=1"],
+    &["run", "j.toml", "--order=seed", "--seed=2"],
+];
+
+/// Each case leaves what stands in it where these are the words.
+fn each_by(
+    rt: &impl Abort,
+    alloc: Global,
+    words: &'static [&'static str],
+    cases: &[Case],
+) -> Result<(), Fail> {
+    for case in cases {
+        let mut case = *case;
+        case.words = words;
+        let ran = run_case(alloc, &case, &mut MailRoom::new(alloc))?;
+        expect_case(rt, alloc, &ran, &case)?;
+    }
+    Ok(())
+}
+
+/// Each case leaves what stands in it in every order.
+pub fn each_in_every_order(rt: &impl Abort, alloc: Global, cases: &[Case]) -> Result<(), Fail> {
+    for words in ORDERS {
+        each_by(rt, alloc, words, cases)?;
+    }
+    Ok(())
+}
+
 /// The run ends with status 9 where the wire fails at this call.
 fn fails_at(rt: &impl Abort, alloc: Global, case: &Case, call: u64) -> Result<(), Fail> {
     let mut wire = MailRoom::new(alloc);

@@ -4,16 +4,17 @@ ghost use Rattle.outside.specs.declared.name.Name.{Name};
 ghost use Rattle.outside.specs.Faults.{Rose};
 ghost use Rattle.message_play.specs.Plays.{wire_state};
 ghost use Rattle.run_input.specs.Sources.{SomeSource};
-ghost use Rattle.tpx.specs.Asked.{HasRanks, asked};
+ghost use Rattle.tpx.specs.Asked.{IsWithinBounds, asked};
 ghost use Rattle.tpx.specs.Calls.{SomeCall, is_settled};
 ghost use Rattle.tpx.specs.Endings.{EndsWith, command_of, reads, reads_of};
 ghost use Rattle.tpx.specs.Faults.{result_status};
 ghost use Rattle.tpx.specs.Messages.{memory_message, overflow_message, unwritten_message, usage_message, wire_message};
 ghost use Rattle.tpx.specs.Steps.{Gives, IsNoCommand, IsUnread, IsWireFailed, MayHaveRun, RoseAt, Touches, UnreadIsAmong};
 ghost use Rattle.tpx.specs.Streams.{Says, SaysRefusal, SaysUndelivered, SaysUnread, SaysWrongLine, TakesPart, TakesText};
-ghost use Rattle.tpx.specs.Words.{begins_run, is_run};
+ghost use Rattle.tpx.specs.Words.{begins_run, is_played};
 
 use crate::fault::Fault;
+use crate::generated::run_generated;
 use crate::messages::report;
 use crate::run::run_job;
 use crate::show::show;
@@ -30,7 +31,7 @@ fn run_asked<'a, F: Files, W: Wire, O: Sink>(
     out: &mut O,
 ) -> Result<(), Fault<'a>>
     requires nothing_pending { (name : Name) → W.pending wire.old name ≡ None }
-    requires ranks { HasRanks command }
+    requires bounds { IsWithinBounds command }
     ensures known { IsNoCommand result → ⊥ }
     ensures gives { SomeCall (F.told files.old) (Some (asked command.entry)) (is_settled (result_status result)) (wire_state W.pending W.posted W.taken W.given W.is_honest wire.old) (wire_state W.pending W.posted W.taken W.given W.is_honest wire.new)
         (Gives O.told out.old out.new result) }
@@ -45,12 +46,13 @@ fn run_asked<'a, F: Files, W: Wire, O: Sink>(
     ensures out_never_falls { O.faults out.old ≤ O.faults out.new }
     ensures no_wire_fault { IsWireFailed result ⊎ (W.faults wire.new ≡ W.faults wire.old) }
     ensures wire_never_falls { W.faults wire.old ≤ W.faults wire.new }
-    ensures wire_fault { IsWireFailed result → IsTrue (is_run (Some (asked command.entry))) × Rose (W.faults wire.old) (W.faults wire.new) }
+    ensures wire_fault { IsWireFailed result → IsTrue (is_played (Some (asked command.entry))) × Rose (W.faults wire.old) (W.faults wire.new) }
     ensures same_wire { MayHaveRun (Some (asked command.entry)) (result_status result) ⊎ (wire.new ≡ wire.old) }
 {
     match command {
         Asked::Show(command) => show(alloc, command.ranks, command.file, files, out),
         Asked::Run(command) => run_job(alloc, command, files, wire, out),
+        Asked::Gen(size) => run_generated(alloc, size, wire, out),
     }
 }
 
@@ -78,7 +80,7 @@ fn run_command<'a, F: Files, W: Wire, O: Sink>(
     ensures out_never_falls { O.faults out.old ≤ O.faults out.new }
     ensures no_wire_fault { IsWireFailed result ⊎ (W.faults wire.new ≡ W.faults wire.old) }
     ensures wire_never_falls { W.faults wire.old ≤ W.faults wire.new }
-    ensures wire_fault { IsWireFailed result → IsTrue (is_run (command_of words.now)) × Rose (W.faults wire.old) (W.faults wire.new) }
+    ensures wire_fault { IsWireFailed result → IsTrue (is_played (command_of words.now)) × Rose (W.faults wire.old) (W.faults wire.new) }
     ensures same_wire { MayHaveRun (command_of words.now) (result_status result) ⊎ (wire.new ≡ wire.old) }
 {
     match Asked::read(alloc, words) {
@@ -99,6 +101,11 @@ fn run_command<'a, F: Files, W: Wire, O: Sink>(
 /// one is named, and the files of the given values, plays the ranks of the job over the wire in the order asked for, and
 /// writes the printed values to `out`, and then the traffic listing where it was asked for.
 ///
+/// `gen N` makes the job of size N (1 to 1,000,000) without reading a file: y = A x and z = A A x for a vector x that is moved from a
+/// cyclic map to the uniform one and a matrix A with 2 on its diagonal and -1 beside it. It plays the 4 ranks of the job over the wire
+/// in fifo order, and writes four lines: the size, the number of places of A A, the sums of the cells of y and of z, and the number of
+/// letters.
+///
 /// | status | comes |
 /// |---|---|
 /// | 0 | the text was written whole |
@@ -108,7 +115,7 @@ fn run_command<'a, F: Files, W: Wire, O: Sink>(
 /// | 4 | exactly where a write failed: the count of faults of `out` rose; `out` then has a prefix of the text added |
 /// | 5 | where 3 and 1 do not come, exactly where the text of a file is refused, or a file has not the sizes that the job states |
 /// | 6 | where 9 does not come either, exactly where a schedule ends while letters are in flight |
-/// | 7 | likewise, exactly where the file is accepted, or all letters were delivered, and somewhere the magnitudes added exceed 2^127 - 1: at a place of the matrix, or in a cell of some value of the job |
+/// | 7 | likewise, exactly where the file is accepted, or all letters were delivered, and somewhere the magnitudes added exceed 2^127 - 1: at a place of the matrix, in a cell of some value of the job, or in one of the two sums of `gen` |
 /// | 8 | likewise, exactly where a line of the schedule names a letter neither in flight nor delivered before |
 /// | 9 | only where the count of faults of the wire rose |
 ///
@@ -166,7 +173,7 @@ pub fn top<F: Files, W: Wire, O: Sink, E: Sink>(
     ensures no_read_fault { (result ≡ 3) ⊎ ((name : List ℕ) → F.faults files.new name ≡ F.faults files.old name) }
     ensures unwritten { result ≡ 4 → Rose (O.faults out.old) (O.faults out.new) }
     ensures no_write_fault { (result ≡ 4) ⊎ (O.faults out.new ≡ O.faults out.old) }
-    ensures wire_fault { result ≡ 9 → IsTrue (is_run (command_of words.now)) × Rose (W.faults wire.old) (W.faults wire.new) }
+    ensures wire_fault { result ≡ 9 → IsTrue (is_played (command_of words.now)) × Rose (W.faults wire.old) (W.faults wire.new) }
     ensures no_wire_fault { (result ≡ 9) ⊎ (W.faults wire.new ≡ W.faults wire.old) }
     ensures files_never_fall { (name : List ℕ) → F.faults files.old name ≤ F.faults files.new name }
     ensures out_never_falls { O.faults out.old ≤ O.faults out.new }

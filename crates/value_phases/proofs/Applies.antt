@@ -8,7 +8,7 @@ use Rattle.model_defs.specs.Shapes.{shape, shape_by, is_dense}
 use Rattle.model_defs.specs.Transfers.{transfers_by}
 use Rattle.model_defs.specs.Valid.{IsValidMaker, IsAddend}
 use Rattle.model_defs.proofs.KnownShapes.{shape-of-made, not-dense}
-use Rattle.value_phases.specs.BuiltValues.{IsApply}
+use Rattle.value_phases.specs.ValueKinds.{IsApply}
 use Rattle.value_phases.specs.Laws.{AppliesHaveOperands}
 
 -- what is added is a vector, as the result is

@@ -6,6 +6,7 @@ pub mod ValueActs
 pub mod MadePlans
 pub mod ValueLists
 pub mod NumberedPhases
-pub mod Built
+pub mod ValueKinds
 pub mod Matrices
+pub mod MadeMatrices
 pub mod Stages

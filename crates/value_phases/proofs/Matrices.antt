@@ -9,7 +9,7 @@ use Rattle.model_defs.specs.Shapes.{is_dense, is_split_sort, shape, shape_by}
 use Rattle.model_defs.specs.Transfers.{to_owners, transfers, transfers_by}
 use Rattle.model_defs.specs.Valid.{IsValid}
 use Rattle.model_defs.proofs.KnownShapes.{shape-of-made}
-use Rattle.value_phases.specs.BuiltValues.{IsAssembled, IsGivenSplit}
+use Rattle.value_phases.specs.ValueKinds.{IsAssembled, IsGivenSplit}
 use Rattle.value_phases.specs.Laws.{MatricesAreKnown}
 use Rattle.value_phases.specs.ValuePhases.{IsStructured}
 use Rattle.value_phases.proofs.ValueMakers.{own-structure}

@@ -6,8 +6,7 @@ use Rattle.model_defs.specs.declared.job.Step.TheVariants as step
 use Rattle.model_defs.specs.Makers.{GivenMatrix, Made, maker_of, value_count}
 use Rattle.model_defs.specs.Valid.{IsValid}
 use Rattle.rank_stages.specs.DataLaws.{copied_by}
-use Rattle.value_phases.specs.BuiltJobs.{IsBuiltJob}
-use Rattle.value_phases.specs.BuiltValues.{HasBuiltValues, IsApply, IsAssembled, IsGivenSplit}
+use Rattle.value_phases.specs.ValueKinds.{HasValueKinds, IsApply, IsAssembled, IsGivenSplit, IsMadeMatrix, is_matrix_step}
 use Rattle.value_phases.specs.ValuePhases.{HasValuePhases, IsCopy}
 use Rattle.value_phases.specs.ValueStages.{HasValueStages}
 
@@ -15,9 +14,9 @@ use Rattle.value_phases.specs.ValueStages.{HasValueStages}
 abbrev pub JobsHaveValuePhases : Type 0
 JobsHaveValuePhases = (job : Job) → IsValid job → HasValuePhases job
 
--- One that is carried out by now has such values.
-abbrev pub BuiltJobsHaveValues : Type 0
-BuiltJobsHaveValues = (job : Job) → IsValid job → IsBuiltJob job → HasBuiltValues job
+-- It has such values.
+abbrev pub JobsHaveValueKinds : Type 0
+JobsHaveValueKinds = (job : Job) → IsValid job → HasValueKinds job
 
 -- Each value of a valid job that is made by `move`, `import`, `spread` or `export` is a copy, be its numbers sent or not.
 abbrev pub CopiesHaveSources : Type 0
@@ -39,3 +38,8 @@ MatricesAreKnown =
 -- The transfers of values, and the phases of two of them.
 abbrev pub JobsHaveValueStages : Type 0
 JobsHaveValueStages = (job : Job) → IsValid job → HasValueStages job
+
+-- Each value that is made by `transpose`, `multiply`, `add` or `assemble` is a matrix of its own.
+abbrev pub MadeMatricesHaveOperands : Type 0
+MadeMatricesHaveOperands =
+    (job : Job) (k : ℕ) → IsValid job → k < value_count job → is_matrix_step (maker_of job k) ≡ true → IsMadeMatrix job k

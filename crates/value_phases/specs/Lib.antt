@@ -1,5 +1,4 @@
-pub mod BuiltJobs
 pub mod ValuePhases
 pub mod ValueStages
-pub mod BuiltValues
+pub mod ValueKinds
 pub mod Laws

@@ -1,5 +1,5 @@
 //! Texts, tables and maps that are refused or accepted.
-use super::all_after;
+use super::each_after;
 use std::test::Fail;
 
 #[test]
@@ -22,7 +22,7 @@ fn texts(rt: HostRuntime) -> Result<(), Fail> {
         ("Zeta = 1\nalpha = 1\nranks = 0", "UnknownKey Zeta"),
         ("map = 3", "Missing ranks"),
     ];
-    all_after(&rt, alloc, head, &cases)?;
+    each_after(&rt, alloc, head, &cases)?;
     Ok(())
 }
 
@@ -42,7 +42,7 @@ fn arrays(rt: HostRuntime) -> Result<(), Fail> {
         ("do = 1\nmatrix = 1", "WrongKind matrix"),
         ("map = [{}]\ndo = 1", "WrongKind do"),
     ];
-    all_after(&rt, alloc, head, &cases)?;
+    each_after(&rt, alloc, head, &cases)?;
     Ok(())
 }
 
@@ -87,7 +87,7 @@ fn maps(rt: HostRuntime) -> Result<(), Fail> {
             "Ok",
         ),
     ];
-    all_after(&rt, alloc, head, &cases)?;
+    each_after(&rt, alloc, head, &cases)?;
     Ok(())
 }
 
@@ -106,7 +106,7 @@ fn counts(rt: HostRuntime) -> Result<(), Fail> {
         ("counts = [16777216, 0]", "Ok"),
         ("size = 3\ncounts = [1, 2]", "UnknownKey map.0.size"),
     ];
-    all_after(&rt, alloc, head, &cases)?;
+    each_after(&rt, alloc, head, &cases)?;
     Ok(())
 }
 
@@ -125,7 +125,7 @@ fn lists(rt: HostRuntime) -> Result<(), Fail> {
         ("lists = [[0], [2]]", "BadMap r"),
         ("lists = [[0, 1], [1]]", "Ok"),
     ];
-    all_after(&rt, alloc, head, &cases)?;
+    each_after(&rt, alloc, head, &cases)?;
     Ok(())
 }
 
@@ -167,6 +167,6 @@ fn names(rt: HostRuntime) -> Result<(), Fail> {
             "Ok",
         ),
     ];
-    all_after(&rt, alloc, head, &cases)?;
+    each_after(&rt, alloc, head, &cases)?;
     Ok(())
 }

@@ -1,5 +1,5 @@
 //! Values and statements that are refused or accepted.
-use super::all_after;
+use super::each_after;
 use std::test::Fail;
 
 #[test]
@@ -22,7 +22,7 @@ fn vectors(rt: HostRuntime) -> Result<(), Fail> {
         ("columns = 16\nfill = 1", "Ok"),
         ("files = ['a']\nfill = 1", "UnknownKey vector.0.files"),
     ];
-    all_after(&rt, alloc, head, &cases)?;
+    each_after(&rt, alloc, head, &cases)?;
     Ok(())
 }
 
@@ -73,7 +73,7 @@ fn own_tests(rt: HostRuntime) -> Result<(), Fail> {
             "Ok",
         ),
     ];
-    all_after(&rt, alloc, head, &cases)?;
+    each_after(&rt, alloc, head, &cases)?;
     Ok(())
 }
 
@@ -144,7 +144,7 @@ fn transfers(rt: HostRuntime) -> Result<(), Fail> {
             "MapMismatch 0",
         ),
     ];
-    all_after(&rt, alloc, HEAD, &cases)?;
+    each_after(&rt, alloc, HEAD, &cases)?;
     Ok(())
 }
 
@@ -189,7 +189,7 @@ fn operations(rt: HostRuntime) -> Result<(), Fail> {
         ),
         ("op = 'transpose'\nname = 'y'\nmatrix = 'S'", "WrongSort 0"),
     ];
-    all_after(&rt, alloc, HEAD, &cases)?;
+    each_after(&rt, alloc, HEAD, &cases)?;
     Ok(())
 }
 
@@ -226,6 +226,6 @@ fn matrix_operations(rt: HostRuntime) -> Result<(), Fail> {
             "UnknownKey do.0.name",
         ),
     ];
-    all_after(&rt, alloc, HEAD, &cases)?;
+    each_after(&rt, alloc, HEAD, &cases)?;
     Ok(())
 }

@@ -1,4 +1,4 @@
-//! Moves, imports, exports and spreads that are refused or accepted, with the words that are built by now.
+//! Moves, imports, exports and spreads that are refused or accepted.
 use super::shown;
 use crate::read_job;
 use model_defs::{Job, Step};

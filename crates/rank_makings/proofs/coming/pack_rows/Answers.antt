@@ -21,8 +21,8 @@ pack-requires-clause-some_row g c =
     let r = c.requires.coming in
     rows-some-row g.S.Scalar.semiring g.S.Scalar.conversions r.0 c.args.pieces.now r.1.1.0 c.args.coming.now r.1.0 c.args.to r.1.1.1
 
-pub pack-requires-in-Dealt-clause-some_row : goal.pack-requires-in-Dealt-clause-some_row
-pack-requires-in-Dealt-clause-some_row g c =
+pub pack-requires-in-Own-clause-some_row : goal.pack-requires-in-Own-clause-some_row
+pack-requires-in-Own-clause-some_row g c =
     let r = c.requires.coming in
     rows-some-row g.S.Scalar.semiring g.S.Scalar.conversions r.0 c.args.pieces.now r.1.1.0 c.args.coming.now r.1.0 c.args.to r.1.1.1
 
@@ -51,11 +51,11 @@ returns-in-Matrix-clause-letter g c =
     written (width e.job e.files e.k) (rows-wide R F e c.args.pieces.now same c.args.coming.now h c.args.to letter _ is)
     ∙ ap (with_lease (leases c.args.pool.now) lease) (rows-packed R F e c.args.pieces.now same c.args.coming.now h c.args.to letter _ is))
 
-pub returns-in-Dealt-clause-letter : goal.returns-in-Dealt-clause-letter
-returns-in-Dealt-clause-letter g c =
+pub returns-in-Own-clause-letter : goal.returns-in-Own-clause-letter
+returns-in-Own-clause-letter g c =
     let R = g.S.Scalar.semiring in
     let F = g.S.Scalar.conversions in
-    if-ok c.pack-in-Dealt.result c.pack-in-Dealt.ensures.letter (λ lease written e h same letter.
-    let is = c.fill_is_source.ensures.same ∙ rows-of-fill R F e c.args.pieces.now same c.args.coming.now h c.in-Dealt.fill c.in-Dealt.is in
+    if-ok c.pack-in-Own.result c.pack-in-Own.ensures.letter (λ lease written e h same letter.
+    let is = c.fill_is_source.ensures.same ∙ rows-of-fill R F e c.args.pieces.now same c.args.coming.now h c.in-Own.fill c.in-Own.is in
     written (width e.job e.files e.k) (rows-wide R F e c.args.pieces.now same c.args.coming.now h c.args.to letter _ is)
     ∙ ap (with_lease (leases c.args.pool.now) lease) (rows-packed R F e c.args.pieces.now same c.args.coming.now h c.args.to letter _ is))

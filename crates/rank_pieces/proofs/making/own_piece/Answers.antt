@@ -1,7 +1,7 @@
 use Rattle.std.proofs.Common.{sym, ap, ◌∙◌, inl, inr}
 use Rattle.phase_list.specs.Seen.{maker_seen}
 use Rattle.rank_pieces.proofs.Clauses.{if-ok}
-use Rattle.rank_pieces.proofs.Makers.{built-step, given-parts, given-vector, matrix-structured, no-print, shape-parts, shape-vector}
+use Rattle.rank_pieces.proofs.Makers.{given-parts, given-vector, matrix-structured, no-print, shape-parts, shape-vector}
 use Rattle.rank_pieces.proofs.StepPieces.{can-make, step-own}
 use Rattle.rank_pieces.proofs.making.own_piece.Goals as goal
 
@@ -33,7 +33,7 @@ step_piece-requires g c =
     let maker = sym c.in-Statement.ensures in
     record {
       operands = can-make g.S.Scalar.semiring g.S.Scalar.conversions g.met.S.Scalar.laws c.args.job.now c.requires.before.0 c.args.me c.args.share.now input c.requires.before.1.0 c.args.k c.args.pieces.now
-          c.requires.before.1.1.1 c.requires.known c.requires.here c.in-Statement.step.now maker (built-step c.args.job.now input.built c.args.k c.requires.known c.in-Statement.step.now maker);
+          c.requires.before.1.1.1 c.requires.known c.requires.here c.in-Statement.step.now maker;
     }
 
 pub unreachable-requires : goal.unreachable-requires

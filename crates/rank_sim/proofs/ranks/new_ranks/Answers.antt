@@ -19,7 +19,6 @@ loop-me-preserved g c =
     let bound : c.deref.result.now.ranks ≡ job.ranks = ap (λ (j : Job). j.ranks) c.deref.ensures in
     let input : IsRankInput F job files c.loop-me.me c.in_ok-share.share = record {
       valid = all.valid;
-      built = all.built;
       fitting = all.fitting;
       numbers = all.numbers;
       rank = let low = c.loop-me-test.true in omega arith;

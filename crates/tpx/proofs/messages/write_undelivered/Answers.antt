@@ -1,4 +1,4 @@
-use Rattle.std.proofs.Common.{decimal, length, refl}
+use Rattle.std.proofs.Common.{refl}
 use Rattle.std.specs.List.{flat_map}
 use Rattle.tpx.specs.Messages.{letter_line, undelivered_line}
 use Rattle.tpx.proofs.Pieces.{cut-short, then-written}

@@ -13,5 +13,5 @@ returns-clause-played g c =
     let begun = wire_state g.W.Wire.pending g.W.Wire.posted g.W.Wire.taken g.W.Wire.given g.W.Wire.is_honest c.args.wire.now in
     let now = wire_state g.W.Wire.pending g.W.Wire.posted g.W.Wire.taken g.W.Wire.given g.W.Wire.is_honest c.run.new.wire in
     let ran = subst (λ xs. IsRan weighed_semiring weighed_conversions job (map file_of xs) c.args.given.now.order begun now c.run.result) c.deref.ensures.value c.run.ensures.ran in
-    played-as job files c.args.given.now.order begun now c.run.result c.outcome_of.result c.outcome_of.ensures ran
+    played-as job files c.args.given.now.order begun now c.run.result c.outcome_of.result c.outcome_of.ensures.outcome ran
     (λ honest. c.complete_runs_show_eval.ensures job files c.args.given.now.order begun now c.run.result c.requires.valid c.requires.fitting ran honest)

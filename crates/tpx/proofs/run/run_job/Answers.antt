@@ -1,5 +1,4 @@
-use Rattle.std.proofs.Common.{◌≡◌, Result, Err, Some, ℕ, sym, subst}
-use Rattle.outside.specs.declared.name.Name.{Name}
+use Rattle.std.proofs.Common.{◌≡◌, Err, Some, sym, subst}
 use Rattle.outside.specs.Letters.{no_letters}
 use Rattle.message_play.specs.Plays.{wire_state}
 use Rattle.run_words.specs.Seen.{words_view}
@@ -7,7 +6,7 @@ use Rattle.tpx.specs.Calls.{SomeCall, is_settled}
 use Rattle.tpx.specs.Faults.{status_of}
 use Rattle.tpx.specs.Steps.{Gives}
 use Rattle.tpx.specs.Words.{run}
-use Rattle.tpx.proofs.RunCalls.{call-memory, call-played, call-stopped, call-written}
+use Rattle.tpx.proofs.RunCalls.{call-played, call-stopped, call-written}
 use Rattle.tpx.proofs.run.run_job.Goals as goal
 
 pub returns-in-Err-clause-gives : goal.returns-in-Err-clause-gives

@@ -1,9 +1,8 @@
 use Rattle.std.proofs.Common.{sym, subst, arith}
-use Rattle.outside.specs.Reads.{Reads}
 use Rattle.mm_text.specs.Reading.{file_of}
 use Rattle.gathered_rows.proofs.Numbers.{CanBeGathered-weighed}
 use Rattle.tpx.specs.declared.fault.Fault.{Fault}
-use Rattle.tpx.specs.Steps.{IsUnread, StopsReading}
+use Rattle.tpx.specs.Steps.{StopsReading}
 use Rattle.tpx.proofs.Reading.{Reads-same, unread-from, unread-to, stops_reading}
 use Rattle.tpx.proofs.show.read_shown.Goals as goal
 

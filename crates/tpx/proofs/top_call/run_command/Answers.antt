@@ -1,4 +1,4 @@
-use Rattle.std.proofs.Common.{◌≡◌, None, Option, Some, option_map, rules, subst}
+use Rattle.std.proofs.Common.{◌≡◌, None, Option, Some, rules, subst}
 use Rattle.outside.specs.Letters.{no_letters}
 use Rattle.message_play.specs.Plays.{wire_state}
 use Rattle.tpx.specs.Asked.{asked}

@@ -10,7 +10,6 @@ use Rattle.rank_stages.specs.OwnerLaws.{plan_about}
 use Rattle.value_phases.specs.ValuePhases.{is_of_structure}
 use Rattle.plan_phases.specs.BookCalls.{IsEnteringBook}
 use Rattle.plan_phases.specs.BookStages.{IsBookStage, with_book}
-use Rattle.value_phases.proofs.Built.{built-jobs-have-values}
 use Rattle.value_phases.proofs.Matrices.{matrices-are-known}
 use Rattle.value_phases.proofs.NumberedPhases.{jobs-have-value-phases}
 use Rattle.rank_makings.proofs.Columns.{fills-have-columns}
@@ -45,7 +44,7 @@ returns-clause-enters g c = λ s ready can.
     c.deref.ensures c.in_ok-list.ensures.list in
     plan-entered R F c.args.self.now s ready c.args.phase can c.args.about c.requires.is c.requires.plain list
     (λ plan of structure. c.deref-4.ensures.value ∙ listed ready.files plan (can-list R F (fills-have-columns R F) matrices-are-known c.args.self.now s ready c.args.phase can
-    (jobs-have-value-phases c.args.self.now.job.value ready.worker_of.input.valid) (built-jobs-have-values c.args.self.now.job.value ready.worker_of.input.valid ready.worker_of.input.built) c.args.about c.requires.is) of structure)
+    (jobs-have-value-phases c.args.self.now.job.value ready.worker_of.input.valid) c.args.about c.requires.is) of structure)
     new
     (subst
     (λ j. (files : List File) (e : IsEnteringBook R F j files old c.args.about list) (values : ℕ → Option (Table _)) → HasValues R F j files values (entering e.stage)
@@ -63,7 +62,7 @@ plan_list-requires g c =
         ready.files,
         subst (λ j. CanList R F j ready.files c.args.self.now.me c.args.self.now.share c.args.about c.args.self.now.making) (sym c.deref.ensures)
             (can-list R F (fills-have-columns R F) matrices-are-known c.args.self.now s ready c.args.phase c.requires.ready.1.1
-            (jobs-have-value-phases c.args.self.now.job.value ready.worker_of.input.valid) (built-jobs-have-values c.args.self.now.job.value ready.worker_of.input.valid ready.worker_of.input.built) c.args.about c.requires.is),
+            (jobs-have-value-phases c.args.self.now.job.value ready.worker_of.input.valid) c.args.about c.requires.is),
       );
     }
 
@@ -84,5 +83,5 @@ enter_phase-requires-clause-enters g c =
       subst (λ j. IsEnteringBook R F j ready.files c.args.self.now.book c.args.about list) (sym c.deref-2.ensures)
           (entering-book R F c.args.self.now s ready c.args.phase can c.args.about c.requires.is c.requires.plain list
           (λ plan of structure. c.deref-4.ensures.value ∙ listed ready.files plan (can-list R F (fills-have-columns R F) matrices-are-known c.args.self.now s ready c.args.phase can
-          (jobs-have-value-phases c.args.self.now.job.value ready.worker_of.input.valid) (built-jobs-have-values c.args.self.now.job.value ready.worker_of.input.valid ready.worker_of.input.built) c.args.about c.requires.is) of structure)),
+          (jobs-have-value-phases c.args.self.now.job.value ready.worker_of.input.valid) c.args.about c.requires.is) of structure)),
     )

@@ -3,7 +3,7 @@ use Rattle.mm_text.specs.Reading.{File}
 use Rattle.peers.specs.Protocols.{Letter}
 use Rattle.rank_pieces.specs.Inputs.{IsRankInput}
 use Rattle.rank_pieces.specs.Pieces.{AreOwnPieces, IsMadeHere, IsOwnPiece}
-use Rattle.value_phases.proofs.Built.{built-jobs-have-values}
+use Rattle.value_phases.proofs.ValueKinds.{jobs-have-value-kinds}
 use Rattle.value_phases.proofs.NumberedPhases.{jobs-have-value-phases}
 use Rattle.value_phases.proofs.Stages.{jobs-have-value-stages}
 use Rattle.rank_core.proofs.Clauses.{on-ok}
@@ -26,7 +26,7 @@ finished_value-requires g c =
           s.absorbed,
           (
             worker.share,
-            leaves-as R F worker s stands c.args.phase can (jobs-have-value-phases worker.job.value input.valid) (jobs-have-value-stages worker.job.value input.valid) (built-jobs-have-values worker.job.value input.valid input.built)
+            leaves-as R F worker s stands c.args.phase can (jobs-have-value-phases worker.job.value input.valid) (jobs-have-value-stages worker.job.value input.valid) (jobs-have-value-kinds worker.job.value input.valid)
                 c.args.count c.requires.count c.requires.more c.deref.result.now c.deref-2.result.now c.deref-3.result.now c.len.result c.take.result
                 c.deref.ensures c.deref-2.ensures.value c.deref-3.ensures.value (let len = c.len.ensures in let ok = c.args.self.now.values.ok.0 in omega arith) c.take.ensures.value,
           ),
@@ -45,16 +45,16 @@ add_pieces-requires-clause-before g c =
     let input = stands.worker_of.input in
     let phased = jobs-have-value-phases worker.job.value input.valid in
     let staged = jobs-have-value-stages worker.job.value input.valid in
-    let built = built-jobs-have-values worker.job.value input.valid input.built in (
+    let kinds = jobs-have-value-kinds worker.job.value input.valid in (
       stands.files,
       (
         s.absorbed,
         (
           subst (λ j. IsRankInput F j stands.files worker.me worker.share) (sym c.deref-4.ensures) input,
           subst (λ j. AreOwnPieces R F j stands.files worker.me s.absorbed (length c.put_piece.new.values.items) c.put_piece.new.values.items) (sym c.deref-4.ensures)
-              (items-own R F worker s stands c.args.phase can phased staged built c.args.count c.requires.count c.requires.more c.in_ok-made.made
+              (items-own R F worker s stands c.args.phase can phased staged kinds c.args.count c.requires.count c.requires.more c.in_ok-made.made
               (λ e. sym c.take.ensures.value ∙ c.in_ok-made.ensures.none e) c.put_piece.new.values.items c.in_ok-put_piece.ensures.put
-              (λ p e. own-as R F worker s stands c.args.phase can phased staged built c.args.count c.requires.count c.requires.more c.deref.result.now c.deref-2.result.now c.deref-3.result.now c.len.result c.take.result
+              (λ p e. own-as R F worker s stands c.args.phase can phased staged kinds c.args.count c.requires.count c.requires.more c.deref.result.now c.deref-2.result.now c.deref-3.result.now c.len.result c.take.result
               c.deref.ensures c.deref-2.ensures.value c.deref-3.ensures.value (let len = c.len.ensures in let ok = c.args.self.now.values.ok.0 in omega arith) c.take.ensures.value
               p (c.in_ok-made.ensures.made p e))),
         ),
@@ -71,7 +71,7 @@ add_pieces-requires-clause-here g c = λ v from to.
     let worker = c.args.self.now in
     let input = stands.worker_of.input in
     subst (λ j. IsMadeHere j v) (sym c.deref-4.ensures)
-    (items-here R F worker s stands c.args.phase can (jobs-have-value-phases worker.job.value input.valid) (jobs-have-value-stages worker.job.value input.valid) (built-jobs-have-values worker.job.value input.valid input.built)
+    (items-here R F worker s stands c.args.phase can (jobs-have-value-phases worker.job.value input.valid) (jobs-have-value-stages worker.job.value input.valid) (jobs-have-value-kinds worker.job.value input.valid)
     c.args.count c.requires.count c.requires.more c.in_ok-made.made
     (λ e. sym c.take.ensures.value ∙ c.in_ok-made.ensures.none e) c.put_piece.new.values.items c.in_ok-put_piece.ensures.put v from to)
 
@@ -84,12 +84,12 @@ returns-clause-pieces g c = on-ok c.add_pieces.result c.add_pieces.ensures.piece
     let input = stands.worker_of.input in
     let phased = jobs-have-value-phases worker.job.value input.valid in
     let staged = jobs-have-value-stages worker.job.value input.valid in
-    let built = built-jobs-have-values worker.job.value input.valid input.built in
+    let kinds = jobs-have-value-kinds worker.job.value input.valid in
     subst (λ j. AreOwnPieces R F j stands.files worker.me s.absorbed c.args.count c.add_pieces.new.pieces.items) c.deref-4.ensures
     (all stands.files s.absorbed (subst (λ j. IsRankInput F j stands.files worker.me worker.share) (sym c.deref-4.ensures) input)
     (subst (λ j. AreOwnPieces R F j stands.files worker.me s.absorbed (length c.put_piece.new.values.items) c.put_piece.new.values.items) (sym c.deref-4.ensures)
-    (items-own R F worker s stands c.args.phase can phased staged built c.args.count c.requires.count c.requires.more c.in_ok-made.made
+    (items-own R F worker s stands c.args.phase can phased staged kinds c.args.count c.requires.count c.requires.more c.in_ok-made.made
     (λ e. sym c.take.ensures.value ∙ c.in_ok-made.ensures.none e) c.put_piece.new.values.items c.in_ok-put_piece.ensures.put
-    (λ p e. own-as R F worker s stands c.args.phase can phased staged built c.args.count c.requires.count c.requires.more c.deref.result.now c.deref-2.result.now c.deref-3.result.now c.len.result c.take.result
+    (λ p e. own-as R F worker s stands c.args.phase can phased staged kinds c.args.count c.requires.count c.requires.more c.deref.result.now c.deref-2.result.now c.deref-3.result.now c.len.result c.take.result
     c.deref.ensures c.deref-2.ensures.value c.deref-3.ensures.value (let len = c.len.ensures in let ok = c.args.self.now.values.ok.0 in omega arith) c.take.ensures.value
     p (c.in_ok-made.ensures.made p e))))))

@@ -1,0 +1,4 @@
+pub mod Fitting
+pub mod Lists
+pub mod Maps
+pub mod Validity
